@@ -49,9 +49,9 @@ pub trait Gate {
 
 /// A gate that holds nobody up.
 #[derive(Clone, Copy, Debug)]
-pub struct Open;
+pub struct OpenGate;
 
-impl Gate for Open {
+impl Gate for OpenGate {
     fn pass(&self, _point: Point) {}
 }
 

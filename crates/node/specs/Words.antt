@@ -13,4 +13,4 @@ pub use Rattle.node.specs.Decisions.{AreDecisions, IsOrdered, OrderView, decisio
 pub use Rattle.node.specs.Tallies.{AreCounted, IsTallied, TallyView, tallied}
 pub use Rattle.node.specs.Transcripts.{AreFirstsOn, AreMarkedIn, DossierView, HasNoTranscript, IsDossier, IsHeardProof, IsTranscript, ShowsNothing, WereHeard, heard_on, questions_of, said_of, statements_on}
 pub use Rattle.node.specs.Verdicts.{KnownCells, KnowsMore, PassView, SeesOn, known_at, ruling_at, ruling_in, ruling_of, told, told_from}
-pub use Rattle.node.specs.Views.{BookView}
+pub use Rattle.node.specs.Views.{BookView, EndedView, ended_of}

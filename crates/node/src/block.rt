@@ -3,7 +3,7 @@ ghost use Rattle.std.specs.Prelude.{◌≡◌, ◌++◌, [], ◌∷◌, IfOk, Is
 ghost use Rattle.questions.specs.Replay.{Entry};
 ghost use Rattle.node.specs.Transcripts.{AreMarkedIn, heard_on};
 
-use crate::compact::Noted;
+use crate::compact::CompactEntry;
 use std::alloc::Global;
 use std::marker::Model;
 use std::sync::Arc;
@@ -23,7 +23,7 @@ pub(crate) struct Block {
 /// them.
 #[derive(Drop)]
 struct Full {
-    entries: Vec<Noted>,
+    entries: Vec<CompactEntry>,
     table: Table,
 }
 
@@ -49,7 +49,7 @@ impl Model for Block {
 
 impl Table {
     /// Marks the question of the entry.
-    fn mark(&mut self, entry: &Noted)
+    fn mark(&mut self, entry: &CompactEntry)
         ensures { (past : List Entry) → AreMarkedIn self.old.marks past →
             AreMarkedIn self.new.marks (past ++ entry.now ∷ []) }
     {
@@ -67,7 +67,7 @@ impl Table {
 }
 
 /// Marks the questions of the entries.
-fn table_of(entries: &[Noted]) -> Table
+fn table_of(entries: &[CompactEntry]) -> Table
     ensures { AreMarkedIn result.marks entries.now }
 {
     let mut table = Table {
@@ -81,7 +81,7 @@ fn table_of(entries: &[Noted]) -> Table
 
 impl Block {
     /// A block of these entries. They come back where there is no memory.
-    pub(crate) fn of(alloc: Global, entries: Vec<Noted>) -> Result<Block, Vec<Noted>>
+    pub(crate) fn of(alloc: Global, entries: Vec<CompactEntry>) -> Result<Block, Vec<CompactEntry>>
         ensures { MatchResult result (λ block. block ≡ entries.items) (λ back. back ≡ entries) }
     {
         let table = table_of(entries.as_slice());
@@ -108,7 +108,7 @@ impl Block {
     }
 
     /// The entries, in order.
-    pub(crate) fn entries(&self) -> &[Noted]
+    pub(crate) fn entries(&self) -> &[CompactEntry]
         ensures { result.now ≡ self.now }
     {
         self.full.entries.as_slice()

@@ -2,7 +2,7 @@
 ghost use Rattle.std.specs.Prelude.{◌≡◌, ◌⊎◌, ◌↔◌, ◌+◌, ◌<◌, ◌≤◌, ◌^◌, ℕ, List, [], ◌∷◌, ◌++◌, length, take, drop, Bool, true, false, IfOk, IfErr, IfSome, OnOk, OnErr, Some, None, IsErrOf, IsSome, IfNone, MatchBool, slice_get, vec_len};
 ghost use Rattle.std.specs.Arc.{arc_value};
 ghost use mathlib.Core.List.{IsPrefix};
-ghost use Rattle.terms_prelude.specs.Terms.{Hearing, Proposal, records_of, records_of_all, Header};
+ghost use Rattle.terms_prelude.specs.Terms.{Hearing, Proposal, Record, records_of, records_of_all, Header};
 ghost use Rattle.questions.specs.Replay.Entry.{Heard, Proposed};
 ghost use Rattle.questions.specs.Replies.{reply_of};
 ghost use Rattle.world.specs.World.{World, IsCorrect};
@@ -27,15 +27,17 @@ ghost use Rattle.node.specs.Standings.{status_of};
 ghost use Rattle.node.specs.States.{IsState};
 ghost use Rattle.node.specs.Transcripts.{IsDossier, IsTranscript, HasNoDossier, HasNoTranscript};
 ghost use Rattle.node.specs.Verdicts.{known_at, KnowsMore};
+ghost use Rattle.node.specs.Views.{ended_of};
 
 use crate::account::{Account, Witness};
 use crate::board::{Board, Pass};
+use crate::ended::Ended;
 use crate::entry::Entry;
 use crate::group::{add_all_taken, prepare};
 use crate::history::History;
 use crate::marks::{Firsts, keep_all};
-use crate::notes::Notes;
 use crate::order::Decision;
+use crate::publisher::Publisher;
 use crate::seat::Seat;
 use crate::settle::is_settled;
 use crate::shown::part;
@@ -51,16 +53,19 @@ use std::marker::{Brand, Model};
 use std::sync::Arc;
 use terms::{Header, Memory, Record, Statement};
 
-/// Names a hub, by its board and the header of its member: contracts say by it that a book, its hub
-/// and a pass are of one board, that a seat counts by the account of the book behind its hub's
-/// lock, and that a book and its hub are of one member of one cluster. A program is generic over
-/// it, and is called at `Brand`.
+/// Names a hub, by its board, the header of its member, and the records with which that was opened:
+/// contracts say by it that a book, its hub and a pass are of one board, that a seat counts by the
+/// account of the book behind its hub's lock, and that a book and its hub are of one life of one
+/// member. A program is generic over it, and is called at `Brand`.
 pub trait Naming {
+    ghost use Rattle.std.specs.Prelude.{List};
     ghost use Rattle.node.specs.Accounts.{BoardName};
 
     ghost names: { BoardName };
 
     ghost header: { Header };
+
+    ghost opening: { List Record };
 }
 
 impl Naming for Brand {
@@ -76,6 +81,8 @@ impl Naming for Brand {
       size = record { n = 0; t = 0; questions = 0 };
       me = 0;
     } };
+
+    ghost opening = { [] };
 }
 
 /// A member with what happened since its opening: its history has each event that it took, in
@@ -94,13 +101,13 @@ pub struct Book<D: Disk, J: Naming> {
     member: Member<D>,
     opened: usize,
     history: History,
-    notes: Notes,
+    publisher: Publisher,
     tally: Tally,
     account: Account<J>,
 }
 
 impl<D: Disk, J: Naming> Model for Book<D, J> {
-    ghost use Rattle.std.specs.Prelude.{take};
+    ghost use Rattle.std.specs.Prelude.{◌≡◌, take};
     ghost use Rattle.member.specs.Readers.{member_saved};
     ghost use Rattle.node.specs.Views.{BookView};
 
@@ -113,12 +120,14 @@ impl<D: Disk, J: Naming> Model for Book<D, J> {
           member = b.member;
           opening = take b.opened (member_saved b.member);
           history = b.history.entries;
-          known = b.notes.known;
+          known = b.publisher.known;
           log = b.account;
         } };
 
-    ghost invariant = { λ b. IsKept D.Disk J.names.cells J.header b.notes.cells b.member b.opened
-        b.history.entries b.notes.known b.tally × IsTied b.member b.history.entries b.account };
+    ghost invariant = { λ b. IsKept D.Disk J.names.cells J.header b.publisher.cells b.member
+        b.opened b.history.entries b.publisher.known b.tally
+        × IsTied b.member b.history.entries b.account
+        × (take b.opened (member_saved b.member) ≡ J.opening) };
 }
 
 impl<D: Disk, J: Naming> Book<D, J> {
@@ -136,20 +145,21 @@ impl<D: Disk, J: Naming> Book<D, J> {
         requires fresh { member_is_stopped member ≡ false →
             MemberStandsFor member (member_saved member) [] }
         requires header { member_header member ≡ J.header }
+        requires opening { member_saved member ≡ J.opening }
         requires board { arc_value board ≡ J.names }
         requires account { account ≡ [] }
         ensures { IfOk result (λ book. IsJustOpened member book) }
     {
         let opened = member.records().len();
-        let mut notes = Notes::new(alloc, board)?;
+        let mut publisher = Publisher::new(alloc, board)?;
         let tally = Tally::of(alloc, &member)?;
-        publish(&member, &mut notes, member.records());
+        publish(&member, &mut publisher, member.records());
         Ok(Book {
             alloc,
             member,
             opened,
             history: History::new(alloc),
-            notes,
+            publisher,
             tally,
             account,
         })
@@ -228,7 +238,7 @@ impl<D: Disk, J: Naming> Book<D, J> {
                     },
                     &answer,
                 );
-                publish(&self.member, &mut self.notes, records_in(&answer));
+                publish(&self.member, &mut self.publisher, records_in(&answer));
                 self.tally.add_behind(self.member.records(), before);
                 Ok(answer)
             }
@@ -367,7 +377,7 @@ impl<D: Disk, J: Naming> Book<D, J> {
         match self.member.hear_all(events) {
             Ok(answers) => {
                 add_all_taken(&mut self.history, events, &answers);
-                publish_all(&self.member, &mut self.notes, &answers);
+                publish_all(&self.member, &mut self.publisher, &answers);
                 self.tally.add_behind(self.member.records(), before);
                 Ok(answers)
             }
@@ -428,7 +438,7 @@ impl<D: Disk, J: Naming> Book<D, J> {
                     },
                     &answer,
                 );
-                publish(&self.member, &mut self.notes, records_in(&answer));
+                publish(&self.member, &mut self.publisher, records_in(&answer));
                 self.tally.add_behind(self.member.records(), before);
                 Ok(answer)
             }
@@ -441,6 +451,7 @@ impl<D: Disk, J: Naming> Book<D, J> {
     pub fn records(&self) -> &[Record]
         ensures saved { result.now ≡ member_saved self.now.member }
         ensures replay { IsReplayed self.now.member self.now.opening self.now.history }
+        ensures opening { self.now.opening ≡ J.opening }
         ensures sound { IsSound D.Disk self.now.member }
         // While it isn't stopped it has of each link just the firsts of what its account has of it.
         ensures account { IsTied self.now.member self.now.history self.now.log }
@@ -613,6 +624,29 @@ impl<D: Disk, J: Naming> Book<D, J> {
         self.history.get(at)
     }
 
+    /// Returns what is left of its life.
+    pub(crate) fn into_ended(self) -> Ended<D>
+        ensures life { result ≡ ended_of self }
+        ensures opening { result.opening ≡ J.opening }
+        ensures header { member_header result.member ≡ J.header }
+        ensures replay { IsReplayed result.member result.opening result.history }
+    {
+        let Book {
+            alloc: _,
+            member,
+            opened,
+            history,
+            publisher: _,
+            tally: _,
+            account: _,
+        } = self;
+        Ended {
+            member,
+            opened,
+            history,
+        }
+    }
+
     /// Returns `true` if the seats are those of all members, each with the link part of its peer.
     pub(crate) fn is_settled(&self, seats: &[Seat<J>]) -> bool
         ensures { result
@@ -632,7 +666,7 @@ impl<D: Disk, J: Naming> Book<D, J> {
         ensures agree { IfSome (known_at pass.old.known question) (λ b.
             IfSome (known_at self.old.known question) (λ c. c ≡ b)) }
     {
-        self.notes.meet(pass, question);
+        self.publisher.meet(pass, question);
     }
 }
 
@@ -716,42 +750,42 @@ pub(crate) fn add_if_taken(history: &mut History, entry: Entry, answer: &Answer)
 }
 
 /// Publishes the decisions of the questions that these records decide.
-fn publish<D: Disk>(member: &Member<D>, notes: &mut Notes, records: &[Record])
+fn publish<D: Disk>(member: &Member<D>, publisher: &mut Publisher, records: &[Record])
     requires sound { IsSound D.Disk member.now }
-    requires decided { AreDecided (member_saved member.now) notes.old.known }
-    ensures cells { notes.new.cells ≡ notes.old.cells }
-    ensures decided { AreDecided (member_saved member.now) notes.new.known }
-    ensures more { KnowsMore notes.old.known notes.new.known }
+    requires decided { AreDecided (member_saved member.now) publisher.old.known }
+    ensures cells { publisher.new.cells ≡ publisher.old.cells }
+    ensures decided { AreDecided (member_saved member.now) publisher.new.known }
+    ensures more { KnowsMore publisher.old.known publisher.new.known }
 {
     for one in records {
         if let Record::Decided { question, .. } = *one {
-            publish_one(member, notes, question);
+            publish_one(member, publisher, question);
         }
     }
 }
 
 /// Publishes the decisions of the questions that the records of these answers decide.
-fn publish_all<D: Disk>(member: &Member<D>, notes: &mut Notes, answers: &[Answer])
+fn publish_all<D: Disk>(member: &Member<D>, publisher: &mut Publisher, answers: &[Answer])
     requires sound { IsSound D.Disk member.now }
-    requires decided { AreDecided (member_saved member.now) notes.old.known }
-    ensures cells { notes.new.cells ≡ notes.old.cells }
-    ensures decided { AreDecided (member_saved member.now) notes.new.known }
-    ensures more { KnowsMore notes.old.known notes.new.known }
+    requires decided { AreDecided (member_saved member.now) publisher.old.known }
+    ensures cells { publisher.new.cells ≡ publisher.old.cells }
+    ensures decided { AreDecided (member_saved member.now) publisher.new.known }
+    ensures more { KnowsMore publisher.old.known publisher.new.known }
 {
     for answer in answers {
-        publish(member, notes, records_in(answer));
+        publish(member, publisher, records_in(answer));
     }
 }
 
 /// Publishes the decision of the question, if there is one.
-fn publish_one<D: Disk>(member: &Member<D>, notes: &mut Notes, question: u16)
+fn publish_one<D: Disk>(member: &Member<D>, publisher: &mut Publisher, question: u16)
     requires sound { IsSound D.Disk member.now }
-    requires decided { AreDecided (member_saved member.now) notes.old.known }
-    ensures cells { notes.new.cells ≡ notes.old.cells }
-    ensures decided { AreDecided (member_saved member.now) notes.new.known }
-    ensures more { KnowsMore notes.old.known notes.new.known }
+    requires decided { AreDecided (member_saved member.now) publisher.old.known }
+    ensures cells { publisher.new.cells ≡ publisher.old.cells }
+    ensures decided { AreDecided (member_saved member.now) publisher.new.known }
+    ensures more { KnowsMore publisher.old.known publisher.new.known }
 {
     if let Some(ruling) = member.ruling(question) {
-        notes.publish(ruling);
+        publisher.publish(ruling);
     }
 }

@@ -16,11 +16,11 @@ use terms::{Kind, Place, Statement, Value};
 /// byte first, the origin, the round, the step, and the toss in eight bytes. The tag of a statement
 /// is its kind, 1 to 3, and four times its value; that of a proposal is four times its bit.
 #[derive(Drop)]
-pub(crate) struct Noted {
+pub(crate) struct CompactEntry {
     bytes: [u8; 15],
 }
 
-impl Model for Noted {
+impl Model for CompactEntry {
     ghost use Rattle.questions.specs.Replay.{Entry};
     ghost use Rattle.node.specs.Compact.{kept_in, IsKeptIn};
 
@@ -31,9 +31,9 @@ impl Model for Noted {
     ghost invariant = { λ n. IsKeptIn n.bytes };
 }
 
-impl Noted {
+impl CompactEntry {
     /// The entry in its bytes.
-    pub(crate) fn of(entry: Entry) -> Noted
+    pub(crate) fn of(entry: Entry) -> CompactEntry
         ensures { result ≡ noted entry }
     {
         match entry {
@@ -41,17 +41,17 @@ impl Noted {
                 from,
                 statement,
                 toss,
-            } => Noted::of_heard(from, statement, toss),
+            } => CompactEntry::of_heard(from, statement, toss),
             Entry::Proposed {
                 question,
                 bit,
                 toss,
-            } => Noted::of_proposed(question, bit, toss),
+            } => CompactEntry::of_proposed(question, bit, toss),
         }
     }
 
     /// The bytes of a statement that was heard.
-    fn of_heard(from: u8, statement: Statement, toss: Toss) -> Noted
+    fn of_heard(from: u8, statement: Statement, toss: Toss) -> CompactEntry
         ensures { result ≡ Heard from statement toss.0 }
     {
         statement.recall();
@@ -63,13 +63,13 @@ impl Noted {
             round: place.round(),
             step: place.step(),
         };
-        Noted {
+        CompactEntry {
             bytes: packed(tag, from, numbers, toss),
         }
     }
 
     /// The bytes of a bit that was proposed.
-    fn of_proposed(question: u16, bit: bool, toss: Toss) -> Noted
+    fn of_proposed(question: u16, bit: bool, toss: Toss) -> CompactEntry
         ensures { result ≡ Proposed question bit toss.0 }
     {
         let tag = if bit { 4 } else { 0 };
@@ -79,7 +79,7 @@ impl Noted {
             round: 0,
             step: 0,
         };
-        Noted {
+        CompactEntry {
             bytes: packed(tag, 0, numbers, toss),
         }
     }

@@ -4,7 +4,7 @@ ghost use Rattle.node.specs.Entries.{noted};
 ghost use Rattle.node.specs.Histories.{joined};
 
 use crate::block::Block;
-use crate::compact::Noted;
+use crate::compact::CompactEntry;
 use crate::entry::Entry;
 use std::alloc::Global;
 use std::marker::Model;
@@ -20,7 +20,7 @@ pub(crate) struct History {
     alloc: Global,
     full: Vec<Block>,
     behind: usize,
-    last: Vec<Noted>,
+    last: Vec<CompactEntry>,
 }
 
 impl Model for History {
@@ -92,7 +92,7 @@ impl History {
         ensures entries { self.new.entries ≡ self.old.entries ++ noted entry ∷ [] }
         ensures room { self.new.room + 1 ≡ self.old.room }
     {
-        self.last.push_reserved(Noted::of(entry));
+        self.last.push_reserved(CompactEntry::of(entry));
     }
 
     /// Returns how many entries were noted.
@@ -123,7 +123,7 @@ impl History {
     }
 
     /// The blocks before the last one, and the last one.
-    pub(crate) fn parts(&self) -> (&[Block], &[Noted])
+    pub(crate) fn parts(&self) -> (&[Block], &[CompactEntry])
         ensures { self.now.entries ≡ joined result.0.now ++ result.1.now }
     {
         (self.full.as_slice(), self.last.as_slice())

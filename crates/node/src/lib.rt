@@ -4,12 +4,12 @@
 #![tactic(auto)]
 
 mod account;
-mod batch;
 mod bell;
 mod block;
 mod board;
 mod book;
 mod compact;
+mod ended;
 mod entry;
 mod group;
 mod history;
@@ -18,10 +18,10 @@ pub mod laws;
 mod line;
 mod link_table;
 mod marks;
-mod notes;
 mod order;
 mod pace;
 mod pause;
+mod publisher;
 mod rack;
 mod seat;
 mod settle;
@@ -34,6 +34,7 @@ mod voice;
 
 pub use board::{Board, NewBoard, Pass};
 pub use book::{Book, Naming};
+pub use ended::Ended;
 pub use entry::Entry;
 pub use hub::Hub;
 pub use link_table::LinkCount;

@@ -8,8 +8,8 @@ ghost use Rattle.node.specs.Groups.{heard_from};
 ghost use Rattle.node.specs.Lines.{ComesOf, HasCome, are_of, is_of};
 
 use crate::account::Witness;
-use crate::batch::{Batch, GROUP, Part};
 use crate::book::{Book, Naming};
+use crate::group::{GROUP, Group, Part};
 use crate::settle::is_same;
 use disk::Disk;
 use member::MemberFault;
@@ -41,13 +41,13 @@ fn again<J: Naming>(outcome: &Outcome<J>) -> Outcome<J>
 
 /// A group and what came of it.
 #[derive(Drop)]
-pub(crate) struct Heard<D, J: Naming> {
-    batch: Batch,
+pub(crate) struct HeardGroup<D, J: Naming> {
+    group: Group,
     outcome: Outcome<J>,
     of: PhantomData<D>,
 }
 
-impl<D, J: Naming> Model for Heard<D, J> {
+impl<D, J: Naming> Model for HeardGroup<D, J> {
     ghost use Rattle.member.specs.Groups.{hearings};
     ghost use Rattle.node.specs.Lines.{HasCome};
 
@@ -55,7 +55,7 @@ impl<D, J: Naming> Model for Heard<D, J> {
 
     ghost view = { λ _. tt };
 
-    ghost invariant = { λ heard. HasCome D (hearings heard.batch) heard.outcome };
+    ghost invariant = { λ heard. HasCome D (hearings heard.group) heard.outcome };
 }
 
 /// An answered piece: what a link handed in, and what came of it.
@@ -158,17 +158,17 @@ impl<D, J: Naming> Line<D, J> {
 
     /// Takes what waits as one group, link by link: as much of it as the group has room and memory
     /// for.
-    pub(crate) fn drain(&mut self, alloc: Global) -> Batch {
-        let mut batch = Batch::new(alloc);
+    pub(crate) fn drain(&mut self, alloc: Global) -> Group {
+        let mut group = Group::new(alloc);
         let links = self.slots.len();
         let first = self.first;
         for step in 0..links {
             let at = first.wrapping_add(step) % links;
-            if self.move_to(&mut batch, at) {
+            if self.move_to(&mut group, at) {
                 self.first = at + 1;
             }
         }
-        batch
+        group
     }
 
     /// Returns `true` if the bell is to ring for the group that was taken last: not while more
@@ -185,12 +185,12 @@ impl<D, J: Naming> Line<D, J> {
     }
 
     /// Moves what waits at a place into a group, if it has room; says whether it did.
-    fn move_to(&mut self, batch: &mut Batch, at: usize) -> bool {
+    fn move_to(&mut self, group: &mut Group, at: usize) -> bool {
         let Some(slot) = self.slots.get_mut(at) else {
             return false;
         };
         match replace(slot, Slot::Away) {
-            Slot::Waits(events) => match batch.add(at, events) {
+            Slot::Waits(events) => match group.add(at, events) {
                 Ok(()) => true,
                 Err(events) => {
                     *slot = Slot::Waits(events);
@@ -206,13 +206,13 @@ impl<D, J: Naming> Line<D, J> {
 
     /// Leaves the answers of a group that was heard. What waits for want of memory, so that it is
     /// in no group, is refused.
-    pub(crate) fn give(&mut self, heard: Heard<D, J>) {
-        let Heard {
-            batch,
+    pub(crate) fn give(&mut self, heard: HeardGroup<D, J>) {
+        let HeardGroup {
+            group,
             outcome,
             of: _,
         } = heard;
-        let Batch { events: _, parts } = batch;
+        let Group { events: _, parts } = group;
         if parts.is_empty() {
             self.refuse();
         }
@@ -332,18 +332,18 @@ fn is_of(heard: &(u8, Statement, Toss), peer: u8, event: &(Statement, Toss)) -> 
 }
 
 /// Has the book hear a group, and does nothing else to it.
-pub(crate) fn hear<D: Disk, J: Naming>(book: &mut Book<D, J>, batch: Batch) -> Heard<D, J>
+pub(crate) fn hear<D: Disk, J: Naming>(book: &mut Book<D, J>, group: Group) -> HeardGroup<D, J>
     ensures { (outcome : Result (List Group) MemberFault)
-        × ComesOf book.old (hearings batch) outcome book.new }
+        × ComesOf book.old (hearings group) outcome book.new }
 {
-    match book.hear_all(&batch.events) {
-        Ok(_) => Heard {
-            batch,
+    match book.hear_all(&group.events) {
+        Ok(_) => HeardGroup {
+            group,
             outcome: Ok(book.witness()),
             of: PhantomData,
         },
-        Err(fault) => Heard {
-            batch,
+        Err(fault) => HeardGroup {
+            group,
             outcome: Err(fault),
             of: PhantomData,
         },

@@ -8,7 +8,7 @@ ghost use Rattle.node.specs.Histories.{joined};
 ghost use Rattle.node.specs.Transcripts.{ShowsNothing, heard_on};
 
 use crate::block::Block;
-use crate::compact::Noted;
+use crate::compact::CompactEntry;
 use crate::entry::Entry;
 use crate::history::History;
 use questions::audit;
@@ -164,7 +164,7 @@ fn share_on(copies: &mut Vec<Block>, block: &Block, question: u16) -> Result<(),
 }
 
 /// The sender and the statement that the entry notes, if it is a statement on the question.
-fn pair_on(entry: &Noted, question: u16) -> Option<(u8, Statement)>
+fn pair_on(entry: &CompactEntry, question: u16) -> Option<(u8, Statement)>
     ensures { MatchOption result
         (heard_on question (entry.now ∷ []) ≡ [])
         (λ pair. heard_on question (entry.now ∷ []) ≡ pair ∷ []) }
@@ -212,7 +212,7 @@ fn heard_on(
 /// Adds what the block has of the question.
 fn hear_block(
     heard: &mut Vec<(u8, Statement)>,
-    block: &[Noted],
+    block: &[CompactEntry],
     question: u16,
 ) -> Result<(), Memory>
     ensures { OnOk result (heard.new.items ≡ heard.old.items ++ heard_on question block.now) }

@@ -24,6 +24,11 @@ pub enum RunFault {
     /// leave it down for good: the others go on without it.
     #[error("forgotten")]
     Forgotten,
+    /// The run came to its end, and what the book heard of the links isn't what their sessions
+    /// handed in. That is a fault of this program, which its contracts rule out of each call, and
+    /// the run as a whole compares. What was saved is in the journal.
+    #[error("torn")]
+    Torn,
     /// Memory, or a thread, was refused at the start.
     #[error("memory")]
     Memory,

@@ -4,9 +4,9 @@ use node::Naming;
 use std::marker::Brand;
 
 /// The name of a run, by what it was given: the addresses at which members listen, the hosts from
-/// which their links are taken, the seed of its tosses, and the number of records that its journal
-/// had. A type over it says by it of which run its peers and its tosses are. The program is generic
-/// over it, and is called at `Brand`.
+/// which their links are taken, and the seed of its tosses, beside what names its hub. A type over
+/// it says by it of which run its peers and its tosses are. The program is generic over it, and is
+/// called at `Brand`.
 pub(crate) trait Life: Naming {
     ghost use Rattle.std.specs.Prelude.{ℕ, List};
     ghost use Rattle.std.specs.declared.net.socket_addr.SocketAddr.{SocketAddr};
@@ -20,9 +20,6 @@ pub(crate) trait Life: Naming {
 
     /// The seed from which it tosses.
     ghost seed: { List ℕ };
-
-    /// The number of records in the journal when the member was opened.
-    ghost records: { ℕ };
 }
 
 impl Life for Brand {
@@ -34,6 +31,4 @@ impl Life for Brand {
     ghost hosts = { OfMembers };
 
     ghost seed = { [] };
-
-    ghost records = { 0 };
 }

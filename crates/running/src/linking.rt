@@ -29,7 +29,7 @@ use crate::shared::{Guest, Shared};
 use crate::tossers::LifeTosser;
 use crate::versions::{Choice, Reception};
 use disk::Disk;
-use links::{LinkEnd, NetStream, Open, greet, write_link};
+use links::{LinkEnd, NetStream, OpenGate, greet, write_link};
 use std::net::{IpAddr, SocketAddr, TcpStream};
 use std::sync::Wait;
 use std::thread;
@@ -82,7 +82,15 @@ fn write_told<D: Disk, J: Life, R: Machine>(
     };
     let mut outgoing = Outgoing::new(rt, it, stream, to);
     let start = it.second(rt);
-    let (end, welcomed) = write_link(rt, it.alloc, &it.hub, peer, &mut outgoing, version, &Open);
+    let (end, welcomed) = write_link(
+        rt,
+        it.alloc,
+        &it.hub,
+        peer,
+        &mut outgoing,
+        version,
+        &OpenGate,
+    );
     it.hub.set_outgoing(rt, peer, false);
     if outgoing.is_up() {
         it.log_of_peer(rt, peer, LogEvent::LinkDownTo(peer, end));

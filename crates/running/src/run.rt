@@ -3,6 +3,7 @@
 ghost use Rattle.std.specs.Prelude.{◌≡◌, ◌*◌, ◌+◌, ◌<◌, ◌^◌, [], false, length, IfOk};
 ghost use Rattle.member.specs.Sound.{HasItsFile, IsSound};
 ghost use Rattle.member.specs.Readers.{member_header, member_saved, member_is_stopped, MemberStandsFor};
+ghost use Rattle.node.specs.Books.{IsReplayed};
 
 use crate::ahead::{Ahead, Welcomes};
 use crate::clients::accept_clients;
@@ -28,7 +29,7 @@ use crate::watch::Telling;
 use desk::Turns;
 use disk::Disk;
 use member::Member;
-use node::{Hub, NewBoard};
+use node::{Ended, Hub, NewBoard, close};
 use std::alloc::Global;
 use std::marker::Brand;
 use std::net::{SocketAddr, TcpListener};
@@ -108,11 +109,11 @@ fn share<D: Disk + Drop, J: Life>(opened: Opened<D>) -> Result<Shared<D, J>, Mem
     requires addresses { opened.addresses.items ≡ J.addresses }
     requires hosts { opened.hosts ≡ J.hosts }
     requires seed { opened.seed ≡ J.seed }
-    requires records { length (member_saved opened.member) ≡ J.records }
     requires sound { IsSound D.Disk opened.member }
     requires fresh { member_is_stopped opened.member ≡ false →
         MemberStandsFor opened.member (member_saved opened.member) [] }
     requires header { member_header opened.member ≡ J.header }
+    requires opening { member_saved opened.member ≡ J.opening }
     requires board { opened.board ≡ J.names }
     requires cells { length opened.board.cells ≡ (member_header opened.member).size.questions }
 {
@@ -334,6 +335,25 @@ fn run_shared<D: Disk + Send, J: Life + Send + Sync, O: Operator, L: Log + Send,
     Ok(())
 }
 
+/// Takes the book out of what the threads shared, once they have ended, and compares its history
+/// with what the sessions of each link handed in.
+///
+/// # Errors
+///
+/// [`RunFault::Torn`]: they differ.
+fn settle<D: Disk + Drop, J: Life>(shared: Shared<D, J>) -> Result<Ended<D>, RunFault>
+    ensures opening { IfOk result (λ ended. ended.opening ≡ J.opening) }
+    ensures header { IfOk result (λ ended. member_header ended.member ≡ J.header) }
+    ensures replay { IfOk result
+        (λ ended. IsReplayed ended.member ended.opening ended.history) }
+{
+    let (hub, seats) = shared.into_parts();
+    match close(hub, seats.into_seats()) {
+        Ok(closing) => Ok(closing.end()),
+        Err(_) => Err(RunFault::Torn),
+    }
+}
+
 /// Runs a member whose board has been named.
 fn run_named<D: Disk + Drop + Send, J: Life + Send + Sync, O: Operator, L: Log + Send, R: Machine>(
     rt: &R,
@@ -341,21 +361,26 @@ fn run_named<D: Disk + Drop + Send, J: Life + Send + Sync, O: Operator, L: Log +
     doors: Doors,
     operator: &mut O,
     log: Option<&Mutex<L>>,
-) -> Result<(), RunFault>
+) -> Result<Ended<D>, RunFault>
     requires may_toss { O.may_toss_from operator.old J.seed }
     requires addresses { opened.addresses.items ≡ J.addresses }
     requires hosts { opened.hosts ≡ J.hosts }
     requires seed { opened.seed ≡ J.seed }
-    requires records { length (member_saved opened.member) ≡ J.records }
     requires sound { IsSound D.Disk opened.member }
     requires fresh { member_is_stopped opened.member ≡ false →
         MemberStandsFor opened.member (member_saved opened.member) [] }
     requires header { member_header opened.member ≡ J.header }
+    requires opening { member_saved opened.member ≡ J.opening }
     requires board { opened.board ≡ J.names }
     requires cells { length opened.board.cells ≡ (member_header opened.member).size.questions }
+    ensures opening { IfOk result (λ ended. ended.opening ≡ J.opening) }
+    ensures header { IfOk result (λ ended. member_header ended.member ≡ J.header) }
+    ensures replay { IfOk result
+        (λ ended. IsReplayed ended.member ended.opening ended.history) }
 {
     let shared = share::<D, J>(opened)?;
-    run_shared(rt, operator, log, &shared, &doors)
+    run_shared(rt, operator, log, &shared, &doors)?;
+    settle(shared)
 }
 
 /// Tells what is left to tell when all threads have ended, and the end.
@@ -449,8 +474,12 @@ pub struct Start<D: Disk + Drop> {
 /// before any thread starts: `Memory` also where the system doesn't give as many threads as n - t
 /// links, the doors and a client want. [`RunFault::Stopped`] is told at the end, where the member
 /// is stopped by then, and [`RunFault::Forgotten`] where that is because more than t members have
-/// heard more of it than its journal holds. Whatever comes, the member is gone with its threads;
-/// what it saved is on its disk.
+/// heard more of it than its journal holds. [`RunFault::Torn`] is told at the end where what the
+/// book heard of a link isn't what its sessions handed in, which no run has shown. After a fault
+/// the member is gone with its threads; what it saved is on its disk.
+///
+/// Else it returns what is left of this life: the member, whose records are those that the rules
+/// have for its history over the records that it was opened with.
 ///
 /// All that its links and its desk toss comes from the seed, which the operator takes. Its records
 /// are those of the file with which its disk began, so nobody wrote that file since the disk was
@@ -463,12 +492,17 @@ pub fn run_member<D: Disk + Drop + Send, O: Operator, L: Log + Send, R: Machine>
     start: Start<D>,
     operator: &mut O,
     log: Option<&Mutex<L>>,
-) -> Result<(), RunFault>
+) -> Result<Ended<D>, RunFault>
     requires seed { O.may_toss_from operator.old start.seed }
     requires sound { IsSound D.Disk start.member }
     requires fresh { member_is_stopped start.member ≡ false →
         MemberStandsFor start.member (member_saved start.member) [] }
     requires begun { HasItsFile D.Disk start.member }
+    ensures opening { IfOk result (λ ended. ended.opening ≡ member_saved start.member) }
+    ensures header { IfOk result
+        (λ ended. member_header ended.member ≡ member_header start.member) }
+    ensures replay { IfOk result
+        (λ ended. IsReplayed ended.member ended.opening ended.history) }
 {
     let Start {
         member,

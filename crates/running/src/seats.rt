@@ -10,7 +10,7 @@ use crate::machine::Machine;
 use crate::shared::Shared;
 use crate::tossers::LifeTosser;
 use disk::Disk;
-use links::{LinkEnd, Open, read_link};
+use links::{LinkEnd, OpenGate, read_link};
 use node::{Rack, Seat};
 use std::net::IpAddr;
 use std::sync::Wait;
@@ -51,6 +51,11 @@ impl<J: Life> Seats<J> {
         }
     }
 
+    /// All of them, once no thread has one.
+    pub(crate) fn into_seats(self) -> Vec<Seat<J>> {
+        self.rack.into_seats()
+    }
+
     /// Puts the seat back that was taken out.
     pub(crate) fn put<R: Wait>(&self, rt: &R, seated: Seated<J>) {
         let Seated { seat, host: _ } = seated;
@@ -78,7 +83,9 @@ impl<J: Life> Seated<J> {
         tosser: &mut LifeTosser<J>,
     ) -> LinkEnd {
         let Seated { seat, host: _ } = self;
-        let (seat, end) = read_link(rt, it.alloc, &it.hub, seat, stream, version, &Open, tosser);
+        let (seat, end) = read_link(
+            rt, it.alloc, &it.hub, seat, stream, version, &OpenGate, tosser,
+        );
         it.seats.rack.put(rt, seat);
         end
     }

@@ -116,6 +116,12 @@ fn hello_of(said: &Said) -> Option<[u8; 18]> {
 }
 
 impl<D: Disk, J: Life> Shared<D, J> {
+    /// The hub and the seats, once no thread shares them.
+    pub(crate) fn into_parts(self) -> (Hub<D, J>, Seats<J>) {
+        let Shared { hub, seats, .. } = self;
+        (hub, seats)
+    }
+
     /// Returns `true` if the member is coming to its end.
     pub(crate) fn is_closing(&self) -> bool {
         self.closing.load(Ordering::SeqCst)

@@ -99,13 +99,13 @@ pub fn tossers_of<D: Disk>(
 pub(crate) struct LifeTosser<J: Life> {
     tosser: ChaChaTosser,
     of: PhantomData<J>,
-    ghost of_life: { J.records < 2 ^ 55 → IsOfLife J.seed J.records tosser },
+    ghost of_life: { length J.opening < 2 ^ 55 → IsOfLife J.seed (length J.opening) tosser },
 }
 
 impl<J: Life> LifeTosser<J> {
     /// The tosser of this stream.
     fn new(tosser: ChaChaTosser) -> LifeTosser<J>
-        requires { J.records < 2 ^ 55 → IsOfLife J.seed J.records tosser }
+        requires { length J.opening < 2 ^ 55 → IsOfLife J.seed (length J.opening) tosser }
     {
         LifeTosser {
             tosser,
@@ -129,7 +129,7 @@ fn locked<J: Life>(
     alloc: Global,
     tossers: Vec<ChaChaTosser>,
 ) -> Result<Vec<Mutex<LifeTosser<J>>>, Memory>
-    requires { J.records < 2 ^ 55 → AreOfLife J.seed J.records tossers.items }
+    requires { length J.opening < 2 ^ 55 → AreOfLife J.seed (length J.opening) tossers.items }
 {
     let mut locked = Vec::new(alloc);
     for tosser in tossers {
@@ -154,7 +154,7 @@ pub(crate) fn lock_tossers<D: Disk, J: Life>(
 ) -> Result<LockedTossers<J>, Memory>
     requires sound { IsSound D.Disk member.now }
     requires seed { seed ≡ J.seed }
-    requires records { length (member_saved member.now) ≡ J.records }
+    requires opening { member_saved member.now ≡ J.opening }
 {
     let Tossers { links, desk } = tossers_of(alloc, seed, member)?;
     let links = locked(alloc, links)?;

@@ -12,7 +12,7 @@ use Rattle.wire.proofs.Whole.{joins}
 use Rattle.world.specs.Words.{World, Step, after, after_all, Lie}
 use Rattle.world.specs.World.Step.{Crash as CrashStep}
 use Rattle.world.proofs.Runs.{put-here}
-use Rattle.sim.specs.Words.{Mark, Done, Failed, Skipped, Reason, Nothing, Link, Post, Presence, statements_in, is_broken_at, ReadsBytes, IsSeatAt, IsMove, Answers, AnswersGroup, hearings_from, AreLies, GoesOn, Reopens, is_liar, mine, Scene, Does, HearsLies, group_of, put_at, cleared, IsPost, IsLink, IsNewLink, IsDone, CanBeDone}
+use Rattle.sim.specs.Words.{Mark, Done, Failed, Skipped, Reason, Nothing, Link, Post, Presence, statements_in, is_broken_at, ReadsBytes, IsPresenceAt, IsMove, Answers, AnswersGroup, hearings_from, AreLies, GoesOn, Reopens, is_liar, mine, Scene, Does, HearsLies, group_of, put_at, cleared, IsPost, IsLink, IsNewLink, IsDone, CanBeDone}
 use Rattle.sim.specs.declared.tasks.Instruction.TheVariants as task
 use Rattle.sim.proofs.Reading.{all_formed}
 
@@ -88,14 +88,14 @@ never_skipped size p w fused liar toss (s ∷ ss) reason steps (one, heard, othe
 
 module _ (size : Size) (liars : ℕ → Bool) (c : Scene) (p : ℕ) (old : Post) (post : IsPost size liars c p old) (below : p < size.n) where
   -- a proposal
-  pub proposed : (question : ℕ) (bit : Bool) (toss : Toss) (bytes : List ℕ) (mark : Mark) (seat : Presence) → liars p ≡ false → is_liar seat ≡ is_liar old.seat
-      → IsMove size liars p c.world (Answers size p c.world old.fused toss.0 (Proposal question bit) mark) seat
-      → IsDone size liars c p (task.Propose question bit toss) bytes mark (record old { seat = seat })
-  proposed question bit toss bytes mark seat honest side move =
-      go mark (subst (λ (f : Bool). IsMove size liars p c.world (Answers size p c.world f toss.0 (Proposal question bit) mark) seat) (post.fused honest) move)
+  pub proposed : (question : ℕ) (bit : Bool) (toss : Toss) (bytes : List ℕ) (mark : Mark) (presence : Presence) → liars p ≡ false → is_liar presence ≡ is_liar old.presence
+      → IsMove size liars p c.world (Answers size p c.world old.fused toss.0 (Proposal question bit) mark) presence
+      → IsDone size liars c p (task.Propose question bit toss) bytes mark (record old { presence = presence })
+  proposed question bit toss bytes mark presence honest side move =
+      go mark (subst (λ (f : Bool). IsMove size liars p c.world (Answers size p c.world f toss.0 (Proposal question bit) mark) presence) (post.fused honest) move)
     where
-      go : (k : Mark) → IsMove size liars p c.world (Answers size p c.world (c.fused p) toss.0 (Proposal question bit) k) seat
-          → IsDone size liars c p (task.Propose question bit toss) bytes k (record old { seat = seat })
+      go : (k : Mark) → IsMove size liars p c.world (Answers size p c.world (c.fused p) toss.0 (Proposal question bit) k) presence
+          → IsDone size liars c p (task.Propose question bit toss) bytes k (record old { presence = presence })
       go Done m = record {
         steps = m.steps;
         does = m.is;
@@ -130,16 +130,16 @@ module _ (size : Size) (liars : ℕ → Bool) (c : Scene) (p : ℕ) (old : Post)
   -- a delivery
   pub delivered : (from : ℕ) (s : Statement) (place : ℕ) (toss : Toss) (bytes : List ℕ) (mark : Mark) (new : Post) (i : ℕ) (link : Link) → length old.incoming.items ≡ size.n
       → CanBeDone size liars c p (task.Deliver from s place toss) → i ≡ from → link.place ≡ place → link.size ≡ size → link.end ≡ Rest []
-      → new.header ≡ old.header → is_liar new.seat ≡ is_liar old.seat → new.fused ≡ old.fused → new.incoming.items ≡ set old.incoming.items i link
-      → IsMove size liars p c.world (Answers size p c.world old.fused toss.0 (Hearing from s) mark) new.seat
+      → new.header ≡ old.header → is_liar new.presence ≡ is_liar old.presence → new.fused ≡ old.fused → new.incoming.items ≡ set old.incoming.items i link
+      → IsMove size liars p c.world (Answers size p c.world old.fused toss.0 (Hearing from s) mark) new.presence
       → IsDone size liars c p (task.Deliver from s place toss) bytes mark new
   delivered from s place toss bytes mark new i link len fits ei at is end h side f items move =
-      go mark (subst (λ (f : Bool). IsMove size liars p c.world (Answers size p c.world f toss.0 (Hearing from s) mark) new.seat) (post.fused fits.0.0) move)
+      go mark (subst (λ (f : Bool). IsMove size liars p c.world (Answers size p c.world f toss.0 (Hearing from s) mark) new.presence) (post.fused fits.0.0) move)
     where
       links : (w : World) (a : ℕ) (x : Link) → a < size.n → IsLink size (liars a) (put_at c.place from p place a p) (c.fed a p) (get_or new.incoming.items a x)
       links w = links_moved from place i link new.incoming.items w len fits.1 fits.2 ei at is end items
 
-      go : (k : Mark) → IsMove size liars p c.world (Answers size p c.world (c.fused p) toss.0 (Hearing from s) k) new.seat
+      go : (k : Mark) → IsMove size liars p c.world (Answers size p c.world (c.fused p) toss.0 (Hearing from s) k) new.presence
           → IsDone size liars c p (task.Deliver from s place toss) bytes k new
       go Done m = record {
         steps = m.steps;
@@ -158,13 +158,13 @@ module _ (size : Size) (liars : ℕ → Bool) (c : Scene) (p : ℕ) (old : Post)
   -- a group
   pub delivered_all : (from count : ℕ) (toss : Toss) (bytes : List ℕ) (mark : Mark) (new : Post) (i : ℕ) (link : Link) (hearings : List (ℕ × Statement × ℕ)) → length old.incoming.items ≡ size.n
       → CanBeDone size liars c p (task.DeliverAll from count toss) → i ≡ from → link.place ≡ c.place from p + length (group_of c from p count) → link.size ≡ size → link.end ≡ Rest []
-      → new.header ≡ old.header → is_liar new.seat ≡ is_liar old.seat → new.fused ≡ old.fused → new.incoming.items ≡ set old.incoming.items i link
+      → new.header ≡ old.header → is_liar new.presence ≡ is_liar old.presence → new.fused ≡ old.fused → new.incoming.items ≡ set old.incoming.items i link
       → hearings ≡ hearings_from from toss.0 (group_of c from p count)
-      → IsMove size liars p c.world (AnswersGroup size p c.world old.fused hearings mark) new.seat
+      → IsMove size liars p c.world (AnswersGroup size p c.world old.fused hearings mark) new.presence
       → IsDone size liars c p (task.DeliverAll from count toss) bytes mark new
   delivered_all from count toss bytes mark new i link hearings len fits ei at is end h side f items hears move =
-      go mark (subst (λ (f : Bool). IsMove size liars p c.world (AnswersGroup size p c.world f (hearings_from from toss.0 group) mark) new.seat) (post.fused fits.0.0)
-      (subst (λ (es : List (ℕ × Statement × ℕ)). IsMove size liars p c.world (AnswersGroup size p c.world old.fused es mark) new.seat) hears move))
+      go mark (subst (λ (f : Bool). IsMove size liars p c.world (AnswersGroup size p c.world f (hearings_from from toss.0 group) mark) new.presence) (post.fused fits.0.0)
+      (subst (λ (es : List (ℕ × Statement × ℕ)). IsMove size liars p c.world (AnswersGroup size p c.world old.fused es mark) new.presence) hears move))
     where
       group : List Statement
       group = group_of c from p count
@@ -172,7 +172,7 @@ module _ (size : Size) (liars : ℕ → Bool) (c : Scene) (p : ℕ) (old : Post)
       links : (w : World) (a : ℕ) (x : Link) → a < size.n → IsLink size (liars a) (put_at c.place from p (c.place from p + length group) a p) (c.fed a p) (get_or new.incoming.items a x)
       links w = links_moved from (c.place from p + length group) i link new.incoming.items w len fits.1 fits.2 ei at is end items
 
-      go : (k : Mark) → IsMove size liars p c.world (AnswersGroup size p c.world (c.fused p) (hearings_from from toss.0 group) k) new.seat
+      go : (k : Mark) → IsMove size liars p c.world (AnswersGroup size p c.world (c.fused p) (hearings_from from toss.0 group) k) new.presence
           → IsDone size liars c p (task.DeliverAll from count toss) bytes k new
       go Done m = record {
         steps = m.steps;
@@ -191,7 +191,7 @@ module _ (size : Size) (liars : ℕ → Bool) (c : Scene) (p : ℕ) (old : Post)
   -- bytes of a liar over a link that is broken
   pub broken : (liar : ℕ) (toss : Toss) (bytes : List ℕ) (new : Post) (i : ℕ) → length old.incoming.items ≡ size.n → liar < size.n → i ≡ liar → (link : Link)
       → link ≡ get_or old.incoming.items i link → is_broken_at link.end ≡ true
-      → new.header ≡ old.header → new.seat ≡ old.seat → new.fused ≡ old.fused → new.incoming.items ≡ set old.incoming.items i link
+      → new.header ≡ old.header → new.presence ≡ old.presence → new.fused ≡ old.fused → new.incoming.items ≡ set old.incoming.items i link
       → IsDone size liars c p (task.Lie liar toss) bytes (Skipped Nothing) new
   broken liar toss bytes new i len member ei link at is h s f items = record {
     steps = [];
@@ -200,7 +200,7 @@ module _ (size : Size) (liars : ℕ → Bool) (c : Scene) (p : ℕ) (old : Post)
     at = record {
       header = h ∙ post.header;
       side = ap is_liar s ∙ post.side;
-      at = λ honest. subst (λ (x : Presence). IsSeatAt (mine size p) c.world x) (sym s) (post.at honest);
+      at = λ honest. subst (λ (x : Presence). IsPresenceAt (mine size p) c.world x) (sym s) (post.at honest);
       fused = λ honest. f ∙ post.fused honest;
       links = λ a x la. subst (λ (l : List Link). IsLink size (liars a) (c.place a p) (c.fed a p) (get_or l a x)) (sym items)
           (link_set size liars c c p liar i old.incoming.items link len member ei post.links
@@ -222,10 +222,10 @@ module _ (size : Size) (liars : ℕ → Bool) (c : Scene) (p : ℕ) (old : Post)
       hears (Broken fault) h = (refl, refl)
 
   -- the fuse
-  pub fuse_set : (calls : Option ℕ) (bytes : List ℕ) (seat : Presence) (fused : Bool) → is_liar seat ≡ is_liar old.seat → fused ≡ is_some calls
-      → (liars p ≡ false → IsSeatAt (mine size p) c.world seat)
-      → IsDone size liars c p (task.Fuse calls) bytes Done (record old { seat = seat; fused = fused })
-  fuse_set calls bytes seat fused side f at = record {
+  pub fuse_set : (calls : Option ℕ) (bytes : List ℕ) (presence : Presence) (fused : Bool) → is_liar presence ≡ is_liar old.presence → fused ≡ is_some calls
+      → (liars p ≡ false → IsPresenceAt (mine size p) c.world presence)
+      → IsDone size liars c p (task.Fuse calls) bytes Done (record old { presence = presence; fused = fused })
+  fuse_set calls bytes presence fused side f at = record {
     steps = [];
     does = (refl, refl);
     is_run = tt;
@@ -241,7 +241,7 @@ module _ (size : Size) (liars : ℕ → Bool) (c : Scene) (p : ℕ) (old : Post)
   -- a link that begins anew
   pub reset_done : (from : ℕ) (bytes : List ℕ) (new : Post) (i : ℕ) (link : Link) → length old.incoming.items ≡ size.n → from < size.n → i ≡ from
       → link.place ≡ 0 → link.size ≡ size → link.end ≡ Rest []
-      → new.header ≡ old.header → new.seat ≡ old.seat → new.fused ≡ old.fused → new.incoming.items ≡ set old.incoming.items i link
+      → new.header ≡ old.header → new.presence ≡ old.presence → new.fused ≡ old.fused → new.incoming.items ≡ set old.incoming.items i link
       → IsDone size liars c p (task.Reset from) bytes Done new
   reset_done from bytes new i link len member ei at is end h s f items = record {
     steps = [];
@@ -250,7 +250,7 @@ module _ (size : Size) (liars : ℕ → Bool) (c : Scene) (p : ℕ) (old : Post)
     at = record {
       header = h ∙ post.header;
       side = ap is_liar s ∙ post.side;
-      at = λ honest. subst (λ (x : Presence). IsSeatAt (mine size p) c.world x) (sym s) (post.at honest);
+      at = λ honest. subst (λ (x : Presence). IsPresenceAt (mine size p) c.world x) (sym s) (post.at honest);
       fused = λ honest. f ∙ post.fused honest;
       links = λ a x la. subst (λ (l : List Link). IsLink size (liars a) (put_at c.place from p 0 a p) (put_at c.fed from p [] a p) (get_or l a x)) (sym items)
           (link_set size liars c (record c { place = put_at c.place from p 0; fed = put_at c.fed from p [] }) p from i old.incoming.items link len member ei post.links
@@ -260,10 +260,10 @@ module _ (size : Size) (liars : ℕ → Bool) (c : Scene) (p : ℕ) (old : Post)
   }
 
   -- a crash
-  pub crash_done : (pick : Pick) (bytes : List ℕ) (seat : Presence) → is_liar seat ≡ is_liar old.seat → liars p ≡ false
-      → IsSeatAt (mine size p) (after c.world (CrashStep p)) seat
-      → IsDone size liars c p (task.Crash pick) bytes Done (record old { seat = seat; fused = false })
-  crash_done pick bytes seat side honest at = record {
+  pub crash_done : (pick : Pick) (bytes : List ℕ) (presence : Presence) → is_liar presence ≡ is_liar old.presence → liars p ≡ false
+      → IsPresenceAt (mine size p) (after c.world (CrashStep p)) presence
+      → IsDone size liars c p (task.Crash pick) bytes Done (record old { presence = presence; fused = false })
+  crash_done pick bytes presence side honest at = record {
     steps = CrashStep p ∷ [];
     does = (refl, refl);
     is_run = (record { member = below; honest = honest }, tt);
@@ -277,13 +277,13 @@ module _ (size : Size) (liars : ℕ → Bool) (c : Scene) (p : ℕ) (old : Post)
   }
 
   -- an opening again that failed
-  pub reopen_failed : (bytes : List ℕ) (mark : Mark) (seat : Presence) → (mark ≡ Done → ⊥) → is_liar seat ≡ is_liar old.seat → liars p ≡ false
-      → IsMove size liars p c.world (Reopens p old.fused mark) seat
-      → IsDone size liars c p task.Restart bytes mark (record old { seat = seat })
-  reopen_failed bytes mark seat undone side honest move =
-      go mark refl (subst (λ (f : Bool). IsMove size liars p c.world (Reopens p f mark) seat) (post.fused honest) move)
+  pub reopen_failed : (bytes : List ℕ) (mark : Mark) (presence : Presence) → (mark ≡ Done → ⊥) → is_liar presence ≡ is_liar old.presence → liars p ≡ false
+      → IsMove size liars p c.world (Reopens p old.fused mark) presence
+      → IsDone size liars c p task.Restart bytes mark (record old { presence = presence })
+  reopen_failed bytes mark presence undone side honest move =
+      go mark refl (subst (λ (f : Bool). IsMove size liars p c.world (Reopens p f mark) presence) (post.fused honest) move)
     where
-      go : (k : Mark) → mark ≡ k → IsMove size liars p c.world (Reopens p (c.fused p) k) seat → IsDone size liars c p task.Restart bytes k (record old { seat = seat })
+      go : (k : Mark) → mark ≡ k → IsMove size liars p c.world (Reopens p (c.fused p) k) presence → IsDone size liars c p task.Restart bytes k (record old { presence = presence })
       go Done e m = absurd (undone e)
       go Failed e m = record {
         steps = m.steps;
@@ -294,12 +294,12 @@ module _ (size : Size) (liars : ℕ → Bool) (c : Scene) (p : ℕ) (old : Post)
       go (Skipped reason) e m = absurd m.is
 
   -- an opening again, with new links
-  pub reopen_done : (bytes : List ℕ) (mark : Mark) (new : Post) → mark ≡ Done → new.header ≡ old.header → is_liar new.seat ≡ is_liar old.seat → new.fused ≡ old.fused → liars p ≡ false
-      → IsMove size liars p c.world (Reopens p old.fused mark) new.seat
+  pub reopen_done : (bytes : List ℕ) (mark : Mark) (new : Post) → mark ≡ Done → new.header ≡ old.header → is_liar new.presence ≡ is_liar old.presence → new.fused ≡ old.fused → liars p ≡ false
+      → IsMove size liars p c.world (Reopens p old.fused mark) new.presence
       → ((a : ℕ) (x : Link) → a < size.n → IsNewLink size (get_or new.incoming.items a x))
       → IsDone size liars c p task.Restart bytes Done new
   reopen_done bytes mark new e h side f honest move links =
-      let m = subst (λ (k : Mark). IsMove size liars p c.world (Reopens p old.fused k) new.seat) e move in
+      let m = subst (λ (k : Mark). IsMove size liars p c.world (Reopens p old.fused k) new.presence) e move in
       record {
         steps = m.steps;
         does = m.is;
@@ -333,18 +333,18 @@ module _ (size : Size) (liars : ℕ → Bool) (c : Scene) (p : ℕ) (old : Post)
         go (Broken fault) h t = cc
         go (Rest rest) h t = subst (λ (l : List Statement). AllByRecursion (IsWellFormed size) l) (sym (t.2 ∙ ap statements_in t.1.2)) (all_formed size t.1.0 t.1.1.each)
 
-    pub lies_done : (mark : Mark) (new : Post) → liars p ≡ false → new.header ≡ old.header → is_liar new.seat ≡ is_liar old.seat → new.fused ≡ old.fused → new.incoming.items ≡ set old.incoming.items i now
-        → IsMove size liars p c.world (AreLies size p c.world old.fused liar toss.0 statements mark) new.seat
+    pub lies_done : (mark : Mark) (new : Post) → liars p ≡ false → new.header ≡ old.header → is_liar new.presence ≡ is_liar old.presence → new.fused ≡ old.fused → new.incoming.items ≡ set old.incoming.items i now
+        → IsMove size liars p c.world (AreLies size p c.world old.fused liar toss.0 statements mark) new.presence
         → IsDone size liars c p (task.Lie liar toss) bytes mark new
     lies_done mark new honest h side f items move =
-        go link.end refl whole taken mark (subst (λ (x : Bool). IsMove size liars p c.world (AreLies size p c.world x liar toss.0 statements mark) new.seat) (post.fused honest) move)
+        go link.end refl whole taken mark (subst (λ (x : Bool). IsMove size liars p c.world (AreLies size p c.world x liar toss.0 statements mark) new.presence) (post.fused honest) move)
       where
-        post_after : (w : World) (more : List Message) → ReadsMessages size (c.fed liar p ++ bytes) (first.messages ++ more) now.end → IsSeatAt (mine size p) w new.seat
+        post_after : (w : World) (more : List Message) → ReadsMessages size (c.fed liar p ++ bytes) (first.messages ++ more) now.end → IsPresenceAt (mine size p) w new.presence
             → IsPost size liars (record c { world = w; fed = put_at c.fed liar p (c.fed liar p ++ bytes) }) p new
-        post_after w more reads seat = record {
+        post_after w more reads presence = record {
           header = h ∙ post.header;
           side = side ∙ post.side;
-          at = λ honest. seat;
+          at = λ honest. presence;
           fused = λ honest. f ∙ post.fused honest;
           links = λ a x la. subst (λ (l : List Link). IsLink size (liars a) (c.place a p) (put_at c.fed liar p (c.fed liar p ++ bytes) a p) (get_or l a x)) (sym items)
               (link_set size liars c (record c { world = w; fed = put_at c.fed liar p (c.fed liar p ++ bytes) }) p liar i old.incoming.items now len member ei post.links
@@ -363,7 +363,7 @@ module _ (size : Size) (liars : ℕ → Bool) (c : Scene) (p : ℕ) (old : Post)
         does_rest k steps rest e more reads are =
             (first.messages, Rest rest, subst (λ (x : End). ReadsMessages size (c.fed liar p) first.messages x) e first.read, (more, now.end, reads, are))
 
-        go : (e : End) → link.end ≡ e → is_broken_at e ≡ false → ReadsBytes size e bytes statements now.end → (k : Mark) → IsMove size liars p c.world (AreLies size p c.world (c.fused p) liar toss.0 statements k) new.seat
+        go : (e : End) → link.end ≡ e → is_broken_at e ≡ false → ReadsBytes size e bytes statements now.end → (k : Mark) → IsMove size liars p c.world (AreLies size p c.world (c.fused p) liar toss.0 statements k) new.presence
             → IsDone size liars c p (task.Lie liar toss) bytes k new
         go (Broken fault) e w t k m = cc
         go (Rest rest) e w t (Skipped reason) m = absurd (never_skipped size p c.world (c.fused p) liar toss.0 statements reason m.steps m.is)

@@ -4,7 +4,7 @@ use Rattle.std.proofs.Math.Seq.{drop-cons}
 use Rattle.terms_prelude.specs.Terms.{Statement, Record, Said, Decided}
 use Rattle.member.specs.declared.sealed.Sealed.{Sealed}
 use Rattle.member.specs.Sealed.{sealed_from}
-use Rattle.sim.specs.Seats.{nth_said}
+use Rattle.sim.specs.Presences.{nth_said}
 
 -- there are more records than the number of a statement says
 pub nth_bound : (records : List Record) (k : ℕ) (s : Statement) → nth_said records k ≡ Some s → k < length records

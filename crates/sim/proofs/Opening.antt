@@ -83,11 +83,11 @@ some_of (x ∷ xs) p l = x
 -- where a correct member's first opening was stopped, a fuse is in its disk
 pub fuse_there : (size : Size) (liars : List ℕ) (disks : List MemDisk) (shown items : List Post) → shown ≡ items → length items ≡ length disks
     → ((p : ℕ) (d : Post) → p < length items → IsReady (get_or items p d) × IsCreated (mine size p) (among liars p) (fused_in disks p) (get_or items p d))
-    → (p : ℕ) × (p < length shown) × ((d : Post) → (is_liar (get_or shown p d).seat ≡ false) × ((get_or shown p d).fused ≡ true)) → HasFuse liars disks
+    → (p : ℕ) × (p < length shown) × ((d : Post) → (is_liar (get_or shown p d).presence ≡ false) × ((get_or shown p d).fused ≡ true)) → HasFuse liars disks
 fuse_there size liars disks shown items is count each (p, l, told) =
     let within : p < length items = omega (arith, l, ap (λ (x : List Post). length x) is) in
     let d = some_of items p within in
     let created = (each p d within).1 in
-    let here : (is_liar (get_or items p d).seat ≡ false) × ((get_or items p d).fused ≡ true) =
-    subst (λ (x : List Post). (is_liar (get_or x p d).seat ≡ false) × ((get_or x p d).fused ≡ true)) is (told d) in
+    let here : (is_liar (get_or items p d).presence ≡ false) × ((get_or items p d).fused ≡ true) =
+    subst (λ (x : List Post). (is_liar (get_or x p d).presence ≡ false) × ((get_or x p d).fused ≡ true)) is (told d) in
     (p, omega (arith, within, count), sym created.side ∙ here.0, sym created.fused_is ∙ here.1)

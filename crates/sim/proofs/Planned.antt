@@ -7,7 +7,7 @@ use Rattle.rounds.specs.declared.tosses.Toss.{Toss}
 use Rattle.wire.specs.Reading.{Rest}
 use Rattle.world.specs.World.{World, has_sent}
 use Rattle.member.specs.Readers.{member_is_stopped}
-use Rattle.sim.specs.Words.{Which, Next, At, Event, Reason, Link, Delivery, Post, Instruction, Presence, Here, Down, Liar, IsSeatAt, is_up, saved_in, nth_said, group_from, mine, Scene, plan_of, for_link, to_deliver, delivery_of, group_of, to_group, IsPost, IsCluster, CanBeDone, IsGroupFor, AreSaid, IsSteady}
+use Rattle.sim.specs.Words.{Which, Next, At, Event, Reason, Link, Delivery, Post, Instruction, Presence, Here, Down, Liar, IsPresenceAt, is_up, saved_in, nth_said, group_from, mine, Scene, plan_of, for_link, to_deliver, delivery_of, group_of, to_group, IsPost, IsCluster, CanBeDone, IsGroupFor, AreSaid, IsSteady}
 use Rattle.sim.specs.declared.events.Event.TheVariants as events
 use Rattle.sim.specs.declared.events.Reason.TheVariants as reasons
 use Rattle.sim.specs.declared.tasks.Instruction.TheVariants as tasks
@@ -17,8 +17,8 @@ use Rattle.sim.proofs.Groups.{or_true, all_in_group, group_some}
 pub lt_is : (a b : ℕ) → a < b → nat_lt a b ≡ true
 lt_is a b l = grind (arith, nat_tests)
 
--- a seat is up where the world has no batch in doubt
-pub up_is : (size : Size) (p : ℕ) (w : World) (seat : Presence) → IsSeatAt (mine size p) w seat → is_up seat ≡ is_none (w.doubt p)
+-- a presence is up where the world has no batch in doubt
+pub up_is : (size : Size) (p : ℕ) (w : World) (presence : Presence) → IsPresenceAt (mine size p) w presence → is_up presence ≡ is_none (w.doubt p)
 up_is size p w (Here m) at = go (true_or_false (member_is_stopped m))
   where
     go : (member_is_stopped m ≡ true) ⊎ (member_is_stopped m ≡ false) → not (member_is_stopped m) ≡ is_none (w.doubt p)
@@ -28,7 +28,7 @@ up_is size p w (Down disk records) at = sym (ap is_none at.doubt)
 up_is size p w Liar at = absurd at
 
 -- it has what the world has
-pub saved_is : (size : Size) (p : ℕ) (w : World) (seat : Presence) → IsSeatAt (mine size p) w seat → saved_in seat ≡ w.journal p
+pub saved_is : (size : Size) (p : ℕ) (w : World) (presence : Presence) → IsPresenceAt (mine size p) w presence → saved_in presence ≡ w.journal p
 saved_is size p w (Here m) at = at.records
 saved_is size p w (Down disk records) at = at.saved
 saved_is size p w Liar at = absurd at
@@ -101,7 +101,7 @@ open_of size liars w from to plan a h =
 
 -- what a place of such a link tells: the sender's records and the link's place, as the scene has them
 pub record IsTold (size : Size) (liars : ℕ → Bool) (s : Scene) (from to place : ℕ) (sender : Post) : Type 0 where
-  pub saved : saved_in sender.seat ≡ s.world.journal from
+  pub saved : saved_in sender.presence ≡ s.world.journal from
   pub place_is : place ≡ s.place from to
   pub may_come : IsOpen size liars s.world from to
 
@@ -112,7 +112,7 @@ told_of size liars s posts i from to place sender e at cluster h =
     let post = post_at size liars s posts i from sender e at o.0.sender cluster in
     let same : s.place from to ≡ place = cc in
     record {
-      saved = saved_is size from s.world sender.seat (post.at o.0.honest);
+      saved = saved_is size from s.world sender.presence (post.at o.0.honest);
       place_is = sym same;
       may_come = o.0;
     }
@@ -121,7 +121,7 @@ told_of size liars s posts i from to place sender e at cluster h =
 pub brought_is : (size : Size) (liars : ℕ → Bool) (s : Scene) (posts : List Post) (p from count : ℕ) (toss : Toss) (i j place : ℕ) (receiver sender : Post) {E : Type 0} (result : Result Delivery E)
     → IsCluster size liars s posts → p < size.n → CanBeDone size liars s p (tasks.DeliverAll from count toss)
     → i ≡ p → receiver ≡ get_or posts i receiver → j ≡ from → sender ≡ get_or posts j sender → ((d : Link) → place ≡ (get_or receiver.incoming.items from d).place)
-    → IfOk result (λ group. group.statements.items ≡ group_from (saved_in sender.seat) place count)
+    → IfOk result (λ group. group.statements.items ≡ group_from (saved_in sender.presence) place count)
     → IfOk result (λ group. group.place ≡ place + length group.statements.items)
     → IfOk result (IsGroupFor s p (tasks.DeliverAll from count toss))
 brought_is size liars s posts p from count toss i j place receiver sender (Err e) cluster below fits ei ri ej sj at statements behind = tt
@@ -131,7 +131,7 @@ brought_is size liars s posts p from count toss i j place receiver sender (Ok gr
     let any : Link = record { place = 0; size = size; end = Rest [] } in
     let place_is : place ≡ s.place from p = at any ∙ (to_post.links from any fits.2).place_is in
     let are : group.statements.items ≡ group_of s from p count =
-    statements ∙ ap (λ (r : List Record). group_from r place count) (saved_is size from s.world sender.seat (from_post.at fits.1))
+    statements ∙ ap (λ (r : List Record). group_from r place count) (saved_is size from s.world sender.presence (from_post.at fits.1))
     ∙ ap (λ (k : ℕ). group_from (s.world.journal from) k count) place_is in
     (are, behind ∙ ap (λ (k : ℕ). k + length group.statements.items) place_is ∙ ap (λ (l : List Statement). s.place from p + length l) are)
 

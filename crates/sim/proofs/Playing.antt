@@ -43,7 +43,7 @@ looked_up xs i (Some x) P h is = sym (item_at xs i x.now h.0 ∙ ap Some (sym is
 
 -- what the post that was changed has saved behind what it had
 pub saved_there : (posts : List Post) (i p : ℕ) (post : Post) (before : ℕ) → i ≡ p → p < length posts
-    → saved_behind (slice_get (set posts i post) p) before ≡ drop before (saved_in post.seat)
+    → saved_behind (slice_get (set posts i post) p) before ≡ drop before (saved_in post.presence)
 saved_there posts i p post before e h =
     ap (λ (o : _). saved_behind o before) (ap (λ (j : ℕ). slice_get (set posts j post) p) e ∙ get_set posts p post h)
 

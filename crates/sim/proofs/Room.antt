@@ -16,7 +16,7 @@ use Rattle.member.specs.declared.fault.MemberFault.TheVariants.{Stopped, Device,
 use Rattle.member.specs.declared.member.Member.{Member}
 use Rattle.member.specs.Words.{event_question, gate_after, IsFull, AllReply, AllCome, IsFullOfAll, MemberIsAt, LivesBy, Comes, Replies, world_step, memory_disk, IsSound, member_header, member_gate, member_saved, member_is_stopped}
 use Rattle.member.proofs.Lives.{kept_step}
-use Rattle.sim.specs.Seats.{MayCome, mine}
+use Rattle.sim.specs.Presences.{MayCome, mine}
 use Rattle.sim.proofs.Few.{few_records}
 use Rattle.sim.proofs.Moves.{true_or_false}
 

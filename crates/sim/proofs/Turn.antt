@@ -5,7 +5,7 @@ use Rattle.std.proofs.Math.Seq.{drop-append_seam}
 use Rattle.terms_prelude.specs.Terms.{Size, Statement, Record, records_of, records_of_all, without_tosses, Hearing, Proposal, IsSize}
 use Rattle.terms.specs.Reply.{Event as Happening}
 use Rattle.wire.specs.declared.message.Message.{Message}
-use Rattle.sim.specs.Words.{Reason, Mark, Done, Failed, Skipped, Post, Presence, Here, Down, Liar, Instruction, IsSeatAt, Answers, AnswersGroup, hearings_from, AreLies, GoesOn, is_liar, saved_in, mine, Scene, Does, HearsLies, group_of, moved, scene_after, plan_of, bytes_in, IsPost, IsDone, IsCluster, CanBeDone, IsTurn, IsPlanned, Event}
+use Rattle.sim.specs.Words.{Reason, Mark, Done, Failed, Skipped, Post, Presence, Here, Down, Liar, Instruction, IsPresenceAt, Answers, AnswersGroup, hearings_from, AreLies, GoesOn, is_liar, saved_in, mine, Scene, Does, HearsLies, group_of, moved, scene_after, plan_of, bytes_in, IsPost, IsDone, IsCluster, CanBeDone, IsTurn, IsPlanned, Event}
 use Rattle.wire.specs.Reading.{End, Rest, Broken}
 use Rattle.world.specs.Words.{World, Step, put, in_doubt, after, after_all, Lie, Hears, Proposes}
 use Rattle.world.specs.World.Step.{Crash as CrashStep, Restart as RestartStep}
@@ -114,15 +114,15 @@ tables_of c p q task.Restart bytes Failed w ne = record { place = λ a. refl; fe
 tables_of c p q (task.Reset from) bytes Done w ne = record { place = λ a. put_at-other c.place from p 0 a q ne; fed = λ a. put_at-other c.fed from p [] a q ne; fused = refl }
 tables_of c p q (task.Reset from) bytes Failed w ne = record { place = λ a. put_at-other c.place from p 0 a q ne; fed = λ a. put_at-other c.fed from p [] a q ne; fused = refl }
 
-seat_stays : (size : Size) (q : ℕ) (w v : World) (seat : Presence) → SameAt q w v → IsSeatAt (mine size q) w seat → IsSeatAt (mine size q) v seat
-seat_stays size q w v (Here m) same at = rw (same.journal, same.heard, same.doubt) at
-seat_stays size q w v (Down disk records) same at = record {
+presence_stays : (size : Size) (q : ℕ) (w v : World) (presence : Presence) → SameAt q w v → IsPresenceAt (mine size q) w presence → IsPresenceAt (mine size q) v presence
+presence_stays size q w v (Here m) same at = rw (same.journal, same.heard, same.doubt) at
+presence_stays size q w v (Down disk records) same at = record {
   batch = at.batch;
   doubt = same.doubt ∙ at.doubt;
   saved = at.saved ∙ sym same.journal;
   left = rw (same.journal, same.doubt) at.left;
 }
-seat_stays size q w v Liar same at = at
+presence_stays size q w v Liar same at = at
 
 -- the steps of a liar's bytes that were skipped are none
 skipped_lies : (size : Size) (p : ℕ) (w : World) (fused : Bool) (liar toss : ℕ) (statements : List Statement) (reason : Reason) (steps : List Step)
@@ -172,7 +172,7 @@ post_other size liars c p q told bytes mark steps post does ne h =
     record {
       header = h.header;
       side = h.side;
-      at = λ honest. subst (λ (v : World). IsSeatAt (mine size q) v post.seat) (sym w) (seat_stays size q c.world (after_all c.world steps) post.seat (does_other size c p q told bytes mark steps does ne) (h.at honest));
+      at = λ honest. subst (λ (v : World). IsPresenceAt (mine size q) v post.presence) (sym w) (presence_stays size q c.world (after_all c.world steps) post.presence (does_other size c p q told bytes mark steps does ne) (h.at honest));
       fused = λ honest. h.fused honest ∙ sym t.fused;
       links = λ a d la. link_same size (liars a) (c.place a q) _ (c.fed a q) _ (get_or post.incoming.items a d) (t.place a) (t.fed a) (h.links a d la);
     }
@@ -229,14 +229,14 @@ liar_stays size liars c p task.Restart bytes mark steps e fits h = let no : liar
 liar_stays size liars c p (task.Reset from) bytes mark steps e fits h = h.1
 
 -- a liar has no records
-liar_saves : (seat : Presence) → is_liar seat ≡ true → saved_in seat ≡ []
+liar_saves : (presence : Presence) → is_liar presence ≡ true → saved_in presence ≡ []
 liar_saves (Here m) e = cc
 liar_saves (Down disk records) e = cc
 liar_saves Liar e = refl
 
 -- what the post has of the member behind what it had is what the member came to save
 came : (size : Size) (liars : ℕ → Bool) (c : Scene) (p : ℕ) (told : Instruction) (bytes : List ℕ) (mark : Mark) (old new : Post) (saved : List Record) → CanBeDone size liars c p told → IsPost size liars c p old
-    → (d : IsDone size liars c p told bytes mark new) → saved ≡ drop (length (saved_in old.seat)) (saved_in new.seat)
+    → (d : IsDone size liars c p told bytes mark new) → saved ≡ drop (length (saved_in old.presence)) (saved_in new.presence)
     → (scene_after c p told bytes mark (after_all c.world d.steps)).world.journal p ≡ c.world.journal p ++ saved
 came size liars c p told bytes mark old new saved fits here d is = go (liars p) refl
   where
@@ -248,15 +248,15 @@ came size liars c p told bytes mark old new saved fits here d is = go (liars p) 
 
     go : (b : Bool) → liars p ≡ b → next.world.journal p ≡ c.world.journal p ++ saved
     go false e =
-        let before : saved_in old.seat ≡ c.world.journal p = saved_is size p c.world old.seat (here.at e) in
-        let after : saved_in new.seat ≡ next.world.journal p = saved_is size p next.world new.seat (d.at.at e) in
+        let before : saved_in old.presence ≡ c.world.journal p = saved_is size p c.world old.presence (here.at e) in
+        let after : saved_in new.presence ≡ next.world.journal p = saved_is size p next.world new.presence (d.at.at e) in
         let g = grown c.world d.steps p in
         let long : next.world.journal p ≡ c.world.journal p ++ g.0 = world ∙ g.1 in
         let more : saved ≡ g.0 = is ∙ rw (before, after, long) (drop-append_seam (c.world.journal p) g.0) in
         long ∙ ap (λ (l : List Record). c.world.journal p ++ l) (sym more)
     go true e =
-        let before : saved_in old.seat ≡ [] = liar_saves old.seat (here.side ∙ e) in
-        let after : saved_in new.seat ≡ [] = liar_saves new.seat (d.at.side ∙ e) in
+        let before : saved_in old.presence ≡ [] = liar_saves old.presence (here.side ∙ e) in
+        let after : saved_in new.presence ≡ [] = liar_saves new.presence (d.at.side ∙ e) in
         let none : saved ≡ [] = is ∙ rw (before, after) refl in
         let still : d.steps ≡ [] = liar_stays size liars c p told bytes mark d.steps e fits d.does in
         world ∙ ap (λ (l : List Step). (after_all c.world l).journal p) still ∙ sym (append-nil (c.world.journal p)) ∙ ap (λ (l : List Record). c.world.journal p ++ l) (sym none)
@@ -265,7 +265,7 @@ came size liars c p told bytes mark old new saved fits here d is = go (liars p) 
 pub turned : (size : Size) (liars : ℕ → Bool) (c : Scene) (event : Event) (p : ℕ) (told : Instruction) (bytes : List ℕ) (i : ℕ) (mark : Mark) (saved : List Record) (posts : List Post) (x post : Post)
     → IsSize size → i ≡ p → bytes ≡ bytes_in event → length posts ≡ size.n → plan_of size liars c event ≡ Ok (p, told) → IsRight size liars c p told → IsCluster size liars c posts
     → (IsSize size → p < size.n → IsPost size liars c p (get_or posts i x) → CanBeDone size liars c p told → IsDone size liars c p told bytes mark post)
-    → saved ≡ drop (length (saved_in (get_or posts i x).seat)) (saved_in post.seat)
+    → saved ≡ drop (length (saved_in (get_or posts i x).presence)) (saved_in post.presence)
     → IsTurn size liars c event mark saved (set posts i post)
 turned size liars c event p told bytes i mark saved posts x post lawful ei eb len plan right cluster moved is =
     let here = subst (λ (j : ℕ). IsPost size liars c p (get_or posts j x)) (sym ei) (cluster p x right.below) in

@@ -10,7 +10,7 @@ use Rattle.std.proofs.lemmas.List.Elements.{Contains-append_cases}
 use Rattle.world.specs.Words.{World, Agree, Unanimous, AllPropose}
 use Rattle.sim.proofs.Planned.{saved_is}
 
-none_saved : (seat : Presence) → is_liar seat ≡ true → saved_in seat ≡ []
+none_saved : (presence : Presence) → is_liar presence ≡ true → saved_in presence ≡ []
 none_saved (Here m) h = cc
 none_saved (Down disk records) h = cc
 none_saved Liar h = refl
@@ -21,15 +21,15 @@ none_below (suc q) p = append-nil (verdicts_below q p []) ∙ none_below q p
 
 -- what one post has decided
 of_post : (size : Size) (liars : ℕ → Bool) (c : Scene) (p : ℕ) (post : Post) → IsPost size liars c p post
-    → verdicts_below size.questions p (saved_in post.seat) ≡ cond (liars p) [] (verdicts_below size.questions p (c.world.journal p))
+    → verdicts_below size.questions p (saved_in post.presence) ≡ cond (liars p) [] (verdicts_below size.questions p (c.world.journal p))
 of_post size liars c p post is = go (liars p) refl
   where
-    go : (b : Bool) → liars p ≡ b → verdicts_below size.questions p (saved_in post.seat) ≡ cond b [] (verdicts_below size.questions p (c.world.journal p))
-    go true e = ap (λ (r : List Record). verdicts_below size.questions p r) (none_saved post.seat (is.side ∙ e)) ∙ none_below size.questions p
-    go false e = ap (λ (r : List Record). verdicts_below size.questions p r) (saved_is size p c.world post.seat (is.at e))
+    go : (b : Bool) → liars p ≡ b → verdicts_below size.questions p (saved_in post.presence) ≡ cond b [] (verdicts_below size.questions p (c.world.journal p))
+    go true e = ap (λ (r : List Record). verdicts_below size.questions p r) (none_saved post.presence (is.side ∙ e)) ∙ none_below size.questions p
+    go false e = ap (λ (r : List Record). verdicts_below size.questions p r) (saved_is size p c.world post.presence (is.at e))
 
 pub verdicts_more : (size : Size) (liars : ℕ → Bool) (c : Scene) (p : ℕ) (post : Post) (questions me : ℕ) (records : List Record) (old new : List Verdict) → IsPost size liars c p post
-    → me ≡ post.header.me → questions ≡ size.questions → records ≡ saved_in post.seat → old ≡ verdicts_of_below p size.questions liars c.world
+    → me ≡ post.header.me → questions ≡ size.questions → records ≡ saved_in post.presence → old ≡ verdicts_of_below p size.questions liars c.world
     → new ≡ old ++ verdicts_below questions me records → new ≡ verdicts_of_below (p + 1) size.questions liars c.world
 verdicts_more size liars c p post questions me records old new is number all saved before now =
     let mine : me ≡ p = number ∙ ap (λ (h : Header). h.me) is.header in

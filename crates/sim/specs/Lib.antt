@@ -1,5 +1,5 @@
 pub mod Links
-pub mod Seats
+pub mod Presences
 pub mod Scene
 pub mod Posts
 pub mod Runs

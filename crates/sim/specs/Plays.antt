@@ -5,7 +5,7 @@ use Rattle.terms_prelude.specs.Terms.{Size, Record, IsSize, count_below}
 use Rattle.sim.specs.declared.events.Event.{Event}
 use Rattle.sim.specs.declared.events.Mark.{Mark}
 use Rattle.sim.specs.declared.posts.Post.{Post}
-use Rattle.sim.specs.Seats.{saved_in}
+use Rattle.sim.specs.Presences.{saved_in}
 use Rattle.sim.specs.Scene.{opening}
 use Rattle.sim.specs.Runs.{IsFollowed}
 
@@ -18,7 +18,7 @@ pub record ClusterFields : Type 0 where
 -- what the post, if it is there, has saved behind its first so many records
 abbrev pub saved_behind : Option Post → ℕ → List Record
 saved_behind None before = []
-saved_behind (Some post) before = drop before (saved_in post.seat)
+saved_behind (Some post) before = drop before (saved_in post.presence)
 
 -- what the member of the last event has saved behind what it had before
 abbrev pub saved_among : List Post → Option (ℕ × ℕ) → List Record

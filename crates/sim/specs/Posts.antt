@@ -14,7 +14,7 @@ use Rattle.sim.specs.declared.tasks.Instruction.TheVariants as task
 use Rattle.sim.specs.declared.faults.SimFault.{SimFault}
 use Rattle.sim.specs.declared.faults.SimFault.TheVariants as faults
 use Rattle.disk.specs.declared.memory.MemDisk.{MemDisk}
-use Rattle.sim.specs.Seats.{IsOneSound, IsSeatAt, IsFreshSeat, HasDiskFuse, HasCrashed, is_liar, mine}
+use Rattle.sim.specs.Presences.{IsOneSound, IsPresenceAt, IsFreshPresence, HasDiskFuse, HasCrashed, is_liar, mine}
 use Rattle.sim.specs.Scene.{Scene, Does, group_of, scene_after}
 
 -- the link is at that place, and has read those bytes; one from a correct member holds no part of a frame
@@ -34,14 +34,14 @@ pub record IsNewLink (size : Size) (link : Link) : Type 0 where
 -- the post is what the scene has of that number
 pub record IsPost (size : Size) (liars : ℕ → Bool) (c : Scene) (p : ℕ) (post : Post) : Type 0 where
   pub header : post.header ≡ mine size p
-  pub side : is_liar post.seat ≡ liars p
-  pub at : liars p ≡ false → IsSeatAt (mine size p) c.world post.seat
+  pub side : is_liar post.presence ≡ liars p
+  pub at : liars p ≡ false → IsPresenceAt (mine size p) c.world post.presence
   pub fused : liars p ≡ false → post.fused ≡ c.fused p
   pub links : (a : ℕ) (d : Link) → a < size.n → IsLink size (liars a) (c.place a p) (c.fed a p) (get_or post.incoming.items a d)
 
 -- its calls may be made
 pub record IsReady (post : Post) : Type 0 where
-  pub sound : IsOneSound post.seat
+  pub sound : IsOneSound post.presence
   pub wide : length post.incoming.items ≡ post.header.size.n
 
 -- the sender that a task names is a member
@@ -124,16 +124,16 @@ IsOfOpening faults.Full = ⊥
 -- a post whose journal, if it is a correct member's, was created and not opened yet
 pub record IsCreated (header : Header) (liar : Bool) (fused : Bool) (post : Post) : Type 0 where
   pub header_is : post.header ≡ header
-  pub side : is_liar post.seat ≡ liar
-  pub fresh : liar ≡ false → IsFreshSeat header post.seat
+  pub side : is_liar post.presence ≡ liar
+  pub fresh : liar ≡ false → IsFreshPresence header post.presence
   pub fused_is : post.fused ≡ fused
   pub links : (a : ℕ) (d : Link) → a < header.size.n → IsNewLink header.size (get_or post.incoming.items a d)
 
 -- and then opened
 pub record IsOpenedPost (header : Header) (liar : Bool) (fused : Bool) (post : Post) : Type 0 where
   pub header_is : post.header ≡ header
-  pub side : is_liar post.seat ≡ liar
-  pub at : liar ≡ false → IsSeatAt header start post.seat
+  pub side : is_liar post.presence ≡ liar
+  pub at : liar ≡ false → IsPresenceAt header start post.presence
   pub fused_is : post.fused ≡ fused
   pub links : (a : ℕ) (d : Link) → a < header.size.n → IsNewLink header.size (get_or post.incoming.items a d)
 

@@ -9,7 +9,7 @@ use Rattle.sim.specs.declared.events.Mark.TheVariants.{Skipped}
 use Rattle.sim.specs.declared.events.Reason.{Reason}
 use Rattle.sim.specs.declared.posts.Post.{Post}
 use Rattle.sim.specs.declared.tasks.Instruction.{Instruction}
-use Rattle.sim.specs.Seats.{MayCome}
+use Rattle.sim.specs.Presences.{MayCome}
 use Rattle.sim.specs.Scene.{Scene, plan_of, Does, scene_after, bytes_in}
 use Rattle.sim.specs.Posts.{IsCluster}
 

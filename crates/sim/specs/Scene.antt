@@ -17,7 +17,7 @@ use Rattle.sim.specs.declared.events.Reason.TheVariants.{NoSuch, WrongSide, NotU
 use Rattle.sim.specs.declared.tasks.Instruction.{Instruction}
 use Rattle.sim.specs.declared.tasks.Instruction.TheVariants as task
 use Rattle.sim.specs.Links.{statements_in}
-use Rattle.sim.specs.Seats.{nth_said, group_from, hearings_from, Answers, AnswersGroup, AreLies, Reopens}
+use Rattle.sim.specs.Presences.{nth_said, group_from, hearings_from, Answers, AnswersGroup, AreLies, Reopens}
 
 -- the world, and what the script alone tells of links and fuses
 pub record Scene : Type 0 where

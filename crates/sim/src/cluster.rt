@@ -8,7 +8,7 @@ ghost use Rattle.sim.specs.Posts.{IsCluster, AreReady, IsReady, IsCreated, HasSe
 ghost use Rattle.sim.specs.Outcomes.{AreLiars, AreDisks, HasFuse, IsSimulation, HaveOneBit, AreUnanimous, among, fused_in, verdicts_below, verdicts_of};
 ghost use Rattle.sim.specs.declared.faults.SimFault.TheVariants as faults;
 ghost use Rattle.sim.specs.declared.posts.Post.{Post};
-ghost use Rattle.sim.specs.Seats.{is_liar, mine};
+ghost use Rattle.sim.specs.Presences.{is_liar, mine};
 ghost use Rattle.sim.specs.Runs.{IsTurn, IsSteady};
 ghost use Rattle.sim.specs.Plays.{Played, ClusterStandsFor, played, unplayed, and_then, last_saved, saved_among, saved_behind};
 
@@ -297,7 +297,7 @@ fn begin(alloc: Global, posts: &mut [Post]) -> Result<(), SimFault>
         OpensPost (get_or posts.old p d) (get_or posts.new p d)) }
     ensures only { IfErr result IsOfOpening }
     ensures device { IsErrOf result faults.Device → (p : ℕ) × (p < length posts.old) × ((d : Post) →
-        (is_liar (get_or posts.old p d).seat ≡ false) × ((get_or posts.old p d).fused ≡ true)) }
+        (is_liar (get_or posts.old p d).presence ≡ false) × ((get_or posts.old p d).fused ≡ true)) }
 {
     for post in posts.iter_mut() {
         post.begin(alloc)?;

@@ -6,7 +6,7 @@ mod events;
 mod faults;
 mod links;
 mod posts;
-mod seats;
+mod presence;
 mod tasks;
 
 /// The most events of a script.

@@ -10,12 +10,12 @@ ghost use Rattle.disk.specs.Memory.{memory_state};
 ghost use Rattle.sim.specs.declared.tasks.Instruction.TheVariants as tasks;
 ghost use Rattle.sim.specs.declared.faults.SimFault.TheVariants as faults;
 ghost use Rattle.sim.specs.declared.links.Link.{Link};
-ghost use Rattle.sim.specs.Seats.{is_liar, is_up, saved_in, nth_said, group_from, disk_in, HasDiskFuse, HasCrashed, IsFreshSeat, IsSeatAt, MayCome, mine};
+ghost use Rattle.sim.specs.Presences.{is_liar, is_up, saved_in, nth_said, group_from, disk_in, HasDiskFuse, HasCrashed, IsFreshPresence, IsPresenceAt, MayCome, mine};
 ghost use Rattle.sim.specs.Scene.{Scene};
 ghost use Rattle.sim.specs.Posts.{IsPost, IsReady, IsDone, IsGroupFor, IsNewLink, CanBeDone, HasSender, IsCreated, IsOpenedPost, IsOfOpening, IsOfRun, DoesToDisk};
 
 use crate::links::Link;
-use crate::seats::Presence;
+use crate::presence::Presence;
 use crate::tasks::Instruction;
 use crate::{MOST_IN_GROUP, Mark, Reason, SimFault};
 use disk::{MemDisk, Pick};
@@ -35,7 +35,7 @@ pub(crate) struct Delivery {
 #[derive(Drop)]
 pub(crate) struct Post {
     header: Header,
-    seat: Presence,
+    presence: Presence,
     /// Set if a fuse is in its disk.
     fused: bool,
     /// The links to it, by their senders.
@@ -60,14 +60,14 @@ impl Post {
     {
         let incoming = links(alloc, header.size())?;
         let fused = disk.is_fused();
-        let seat = if liar {
+        let presence = if liar {
             Presence::Liar
         } else {
             Presence::Down(created(disk, &header)?, Vec::new(alloc))
         };
         Ok(Post {
             header,
-            seat,
+            presence,
             fused,
             incoming,
         })
@@ -80,14 +80,14 @@ impl Post {
         ensures header { self.new.header ≡ self.old.header }
         ensures opened { (liar fused : Bool) → IsCreated self.old.header liar fused self.old →
             OnOk result (IsOpenedPost self.old.header liar fused self.new) }
-        ensures device { IsErrOf result faults.Device → (is_liar self.old.seat ≡ false)
+        ensures device { IsErrOf result faults.Device → (is_liar self.old.presence ≡ false)
             × (self.old.fused ≡ true) }
         ensures only { IfErr result IsOfOpening }
     {
-        if self.seat.is_liar() {
+        if self.presence.is_liar() {
             return Ok(());
         }
-        match self.seat.open(alloc, self.fused, &self.header)? {
+        match self.presence.open(alloc, self.fused, &self.header)? {
             Mark::Failed => Err(SimFault::Device),
             _ => Ok(()),
         }
@@ -95,16 +95,16 @@ impl Post {
 
     /// Returns `true` if the number is a liar's.
     pub(crate) fn is_liar(&self) -> bool
-        ensures { result ≡ is_liar self.now.seat }
+        ensures { result ≡ is_liar self.now.presence }
     {
-        self.seat.is_liar()
+        self.presence.is_liar()
     }
 
     /// Returns `true` if its member runs.
     pub(crate) fn is_up(&self) -> bool
-        ensures { result ≡ is_up self.now.seat }
+        ensures { result ≡ is_up self.now.presence }
     {
-        self.seat.is_up()
+        self.presence.is_up()
     }
 
     /// Its number.
@@ -116,18 +116,18 @@ impl Post {
 
     /// Returns what its member has saved.
     pub(crate) fn records(&self) -> &[Record]
-        ensures { result.now ≡ saved_in self.now.seat }
+        ensures { result.now ≡ saved_in self.now.presence }
     {
-        self.seat.records()
+        self.presence.records()
     }
 
     /// The statement of that number, of all that its member has saved.
     pub(crate) fn statement(&self, number: u64) -> Option<Statement>
         requires ready { IsReady self.now }
-        ensures said { result ≡ nth_said (saved_in self.now.seat) number }
+        ensures said { result ≡ nth_said (saved_in self.now.presence) number }
         ensures room { IfSome result (λ _. number + 1 < 2 ^ 64) }
     {
-        self.seat.statement(number)
+        self.presence.statement(number)
     }
 
     /// The statements from that number on, of all that its member has saved: at most so many, and
@@ -135,7 +135,7 @@ impl Post {
     pub(crate) fn group(&self, alloc: Global, number: u64, count: u16) -> Result<Delivery, SimFault>
         requires ready { IsReady self.now }
         ensures statements { IfOk result (λ group.
-            group.statements.items ≡ group_from (saved_in self.now.seat) number count) }
+            group.statements.items ≡ group_from (saved_in self.now.presence) number count) }
         ensures place { IfOk result
             (λ group. group.place ≡ number + length group.statements.items) }
         ensures few { IfOk result (λ group. length group.statements.items ≤ 256) }
@@ -144,7 +144,7 @@ impl Post {
         let mut statements = Vec::new(alloc);
         let mut place = number;
         for _taken in 0..count.min(MOST_IN_GROUP) {
-            let Some(statement) = self.seat.statement(place) else {
+            let Some(statement) = self.presence.statement(place) else {
                 return Ok(Delivery { statements, place });
             };
             statements.push(statement)?;
@@ -178,7 +178,7 @@ impl Post {
         ensures header { self.new.header ≡ self.old.header }
         ensures only { IfErr result IsOfRun }
         ensures disk { OnOk result
-            (DoesToDisk task (disk_in self.old.seat) (disk_in self.new.seat)) }
+            (DoesToDisk task (disk_in self.old.presence) (disk_in self.new.presence)) }
         ensures done { (size : Size) (liars : ℕ → Bool) (c : Scene) (p : ℕ) → IsSize size →
             p < size.n → IsPost size liars c p self.old → CanBeDone size liars c p task →
             IsGroupFor c p task group.now → IfOk result
@@ -218,7 +218,7 @@ impl Post {
             CanBeDone size liars c p (tasks.Propose question bit toss) →
             MayCome size liars c.world → IfErr result (λ fault. fault ≡ faults.Memory) }
     {
-        self.seat.propose(self.fused, question, bit, toss)
+        self.presence.propose(self.fused, question, bit, toss)
     }
 
     /// A statement comes to it over the link from its sender, which then has that place.
@@ -251,7 +251,7 @@ impl Post {
         if !link.carry(&mut carried)? {
             return Ok(Mark::Skipped(Reason::Nothing));
         }
-        self.seat.hear(self.fused, from, &carried, toss)
+        self.presence.hear(self.fused, from, &carried, toss)
     }
 
     /// Statements come to it as one group over the link from their sender, which then has the place
@@ -284,7 +284,7 @@ impl Post {
         let link = &mut self.incoming[usize::from(from)];
         link.go_to(group.place);
         let arrived = link.carry_all(alloc, from, &group.statements, toss)?;
-        self.seat.hear_all(self.fused, &arrived)
+        self.presence.hear_all(self.fused, &arrived)
     }
 
     /// Bytes of a liar come to it.
@@ -315,14 +315,14 @@ impl Post {
             return Ok(Mark::Skipped(Reason::Nothing));
         }
         let statements = link.take(alloc, bytes)?;
-        self.seat.hear_each(self.fused, liar, &statements, toss)
+        self.presence.hear_each(self.fused, liar, &statements, toss)
     }
 
     /// The fuse of its disk is set, or taken out.
     fn fuse(&mut self, calls: Option<u64>) -> Result<Mark, SimFault>
         requires ready { IsReady self.old }
         ensures ready { IsReady self.new }
-        ensures disk { HasDiskFuse calls (disk_in self.old.seat) (disk_in self.new.seat) }
+        ensures disk { HasDiskFuse calls (disk_in self.old.presence) (disk_in self.new.presence) }
         ensures header { self.new.header ≡ self.old.header }
         ensures only { IfErr result (λ fault. fault ≡ faults.Memory) }
         ensures done { (size : Size) (liars : ℕ → Bool) (c : Scene) (p : ℕ) → IsSize size →
@@ -330,7 +330,7 @@ impl Post {
             CanBeDone size liars c p (tasks.Fuse calls) → (bytes : List ℕ) →
             IfOk result (λ mark. IsDone size liars c p (tasks.Fuse calls) bytes mark self.new) }
     {
-        self.seat.fuse(calls);
+        self.presence.fuse(calls);
         self.fused = calls.is_some();
         Ok(Mark::Done)
     }
@@ -340,7 +340,7 @@ impl Post {
         requires ready { IsReady self.old }
         ensures ready { IsReady self.new }
         ensures disk { OnOk result
-            (HasCrashed pick (disk_in self.old.seat) (disk_in self.new.seat)) }
+            (HasCrashed pick (disk_in self.old.presence) (disk_in self.new.presence)) }
         ensures header { self.new.header ≡ self.old.header }
         ensures only { IfErr result (λ fault. fault ≡ faults.Memory) }
         ensures done { (size : Size) (liars : ℕ → Bool) (c : Scene) (p : ℕ) → IsSize size →
@@ -348,7 +348,7 @@ impl Post {
             CanBeDone size liars c p (tasks.Crash pick) → (bytes : List ℕ) →
             IfOk result (λ mark. IsDone size liars c p (tasks.Crash pick) bytes mark self.new) }
     {
-        self.seat.crash(pick)?;
+        self.presence.crash(pick)?;
         self.fused = false;
         Ok(Mark::Done)
     }
@@ -364,7 +364,7 @@ impl Post {
             (bytes : List ℕ) → IfOk result (λ mark. IsDone size liars c p
             (tasks.Restart) bytes mark self.new) }
     {
-        match self.seat.open(alloc, self.fused, &self.header)? {
+        match self.presence.open(alloc, self.fused, &self.header)? {
             Mark::Done => {
                 self.renew();
                 Ok(Mark::Done)
@@ -376,7 +376,7 @@ impl Post {
     /// All links to it begin anew.
     fn renew(&mut self)
         ensures header { self.new.header ≡ self.old.header }
-        ensures seat { self.new.seat ≡ self.old.seat }
+        ensures presence { self.new.presence ≡ self.old.presence }
         ensures fused { self.new.fused ≡ self.old.fused }
         ensures wide { length self.new.incoming.items ≡ length self.old.incoming.items }
         ensures links { (a : ℕ) (d : Link) → a < length self.old.incoming.items →

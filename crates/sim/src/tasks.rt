@@ -3,7 +3,7 @@
 ghost use Rattle.std.specs.Prelude.{◌≡◌, ◌<◌, ◌≤◌, ℕ, Bool, List, Ok, IfOk, IfErr, length};
 ghost use Rattle.sim.specs.Scene.{Scene, plan_of, lie_plan, delivery_of, to_group, for_correct, for_running, for_link, bytes_in};
 ghost use Rattle.sim.specs.Posts.{IsCluster, AreReady, IsReady, HasSender, CanBeDone, IsGroupFor};
-ghost use Rattle.sim.specs.Seats.{saved_in, group_from};
+ghost use Rattle.sim.specs.Presences.{saved_in, group_from};
 ghost use Rattle.sim.specs.declared.faults.SimFault.TheVariants as faults;
 ghost use Rattle.sim.specs.declared.events.Event.TheVariants as events;
 ghost use Rattle.sim.specs.declared.tasks.Instruction.TheVariants as tasks;
@@ -229,7 +229,7 @@ fn outgoing_group(
     requires ready { IsReady sender.now }
     ensures plan { result
         ≡ to_group way.from way.to count way.toss
-        (group_from (saved_in sender.now.seat) place count) }
+        (group_from (saved_in sender.now.presence) place count) }
     ensures to { IfOk result (λ planned. planned.0 ≡ way.to) }
     ensures sender { (n : ℕ) → way.from < n → IfOk result (λ planned. HasSender n planned.1) }
 {
@@ -247,7 +247,7 @@ fn outgoing_group(
 fn outgoing(sender: &Post, place: u64, way: Way, which: Which) -> Result<(u8, Instruction), Reason>
     requires ready { IsReady sender.now }
     ensures plan { result
-        ≡ delivery_of (saved_in sender.now.seat) place way.from way.to which way.toss }
+        ≡ delivery_of (saved_in sender.now.presence) place way.from way.to which way.toss }
     ensures to { IfOk result (λ planned. planned.0 ≡ way.to) }
     ensures sender { (n : ℕ) → way.from < n → IfOk result (λ planned. HasSender n planned.1) }
 {

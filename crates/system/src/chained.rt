@@ -165,7 +165,10 @@ impl Chained<'_> {
             addresses,
             seed: seed_of(&self.settings.seed, epoch),
         };
-        run_member(rt, alloc, start, &mut operator, Some(&lines))
+        match run_member(rt, alloc, start, &mut operator, Some(&lines)) {
+            Ok(_) => Ok(()),
+            Err(fault) => Err(fault),
+        }
     }
 
     /// Returns the failure of an epoch whose run ended so.
@@ -173,7 +176,7 @@ impl Chained<'_> {
         let trouble = match fault {
             RunFault::Stopped => told_of_stop(self.host.alloc(), source, None),
             RunFault::Forgotten => put_aside(&self.host, epoch.path, epoch.header.me()),
-            RunFault::Listen | RunFault::Memory | RunFault::Stream => None,
+            RunFault::Listen | RunFault::Memory | RunFault::Stream | RunFault::Torn => None,
         };
         Failure {
             fault: Fault::Run(fault),

@@ -234,7 +234,8 @@ fn told_at_end(
     match run {
         Err(RunFault::Stopped) => told_of_stop(host.alloc(), source, told),
         Err(RunFault::Forgotten) => put_aside(host, source.path, member),
-        Ok(()) | Err(RunFault::Listen | RunFault::Memory | RunFault::Stream) => told,
+        Ok(()) => told,
+        Err(RunFault::Listen | RunFault::Memory | RunFault::Stream | RunFault::Torn) => told,
     }
 }
 
@@ -435,7 +436,10 @@ fn run_opened<'a, D: Disk + Drop + Send, R: Machine>(
         addresses,
         seed: settings.seed,
     };
-    let run = run_member(rt, host.alloc(), start, &mut console, Some(&lines));
+    let run = match run_member(rt, host.alloc(), start, &mut console, Some(&lines)) {
+        Ok(_) => Ok(()),
+        Err(fault) => Err(fault),
+    };
     leave_socket(host, settings);
     let told = console.trouble;
     let trouble = told_at_end(host, &run, &source, settings.header.me(), told);

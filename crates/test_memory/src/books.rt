@@ -142,6 +142,7 @@ fn open<D: Disk + Drop, J: Naming>(
     requires sound { IsSound D.Disk member }
     requires fresh { MemberStandsFor member (member_saved member) [] }
     requires header { member_header member ≡ J.header }
+    requires opening { member_saved member ≡ J.opening }
     requires board { board ≡ J.names }
     requires cells { length board.cells ≡ (member_header member).size.questions }
 {
@@ -196,6 +197,7 @@ fn at_book<D: Disk + Drop, J: Naming, R: Wait + Clock>(
     requires sound { IsSound D.Disk member }
     requires fresh { MemberStandsFor member (member_saved member) [] }
     requires header { member_header member ≡ J.header }
+    requires opening { member_saved member ≡ J.opening }
     requires board { board ≡ J.names }
     requires cells { length board.cells ≡ (member_header member).size.questions }
 {
@@ -234,6 +236,7 @@ fn opens<D: Disk + Drop, J: Naming>(alloc: Global, member: Member<D>, board: New
     requires sound { IsSound D.Disk member }
     requires fresh { MemberStandsFor member (member_saved member) [] }
     requires header { member_header member ≡ J.header }
+    requires opening { member_saved member ≡ J.opening }
     requires board { board ≡ J.names }
     requires cells { length board.cells ≡ (member_header member).size.questions }
 {

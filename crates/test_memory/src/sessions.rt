@@ -2,7 +2,7 @@
 
 use crate::ending::Ending;
 use disk::Disk;
-use links::{LinkEnd, MemStream, Open, read_link, write_link};
+use links::{LinkEnd, MemStream, OpenGate, read_link, write_link};
 use node::{Hub, Naming, Seat, close};
 use rounds::{Toss, Tosser};
 use std::alloc::Global;
@@ -76,7 +76,7 @@ pub(crate) fn reads<D: Disk + Drop, J: Naming, R: Wait + Clock>(
         seat,
         &mut stream,
         Version::Two,
-        &Open,
+        &OpenGate,
         &mut tosser,
     );
     let handed = seat.next();
@@ -107,7 +107,7 @@ pub(crate) fn writes<D: Disk + Drop, J: Naming, R: Wait>(
         return Ending::Before;
     }
     hub.shut(rt);
-    let (why, _) = write_link(rt, alloc, hub, 2, &mut stream, Version::Two, &Open);
+    let (why, _) = write_link(rt, alloc, hub, 2, &mut stream, Version::Two, &OpenGate);
     let ending = ending_of(why);
     let written = stream.output();
     let is_so = match ending {

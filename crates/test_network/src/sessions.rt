@@ -35,7 +35,7 @@ use crate::streams::{Scant, prepare};
 use crate::{books, followers};
 use desk::{Desk, Turns, serve};
 use disk::{Disk, MemDisk};
-use links::{Open, greet, read_link, write_link};
+use links::{OpenGate, greet, read_link, write_link};
 use member::Member;
 use node::{Board, Book, Entry, Hub, Naming, NewBoard, Rack, Seat, close};
 use rounds::{Toss, Tosser};
@@ -189,7 +189,7 @@ fn reads<J: Naming, R: Wait + Clock>(
         seat,
         &mut stream,
         version,
-        &Open,
+        &OpenGate,
         &mut tosser,
     );
     let next = seat.next();
@@ -208,7 +208,7 @@ fn writes<J: Naming, R: Wait>(
     mut stream: Scant,
 ) -> Option<String> {
     hub.shut(rt);
-    let (end, is_welcome) = write_link(rt, alloc, hub, peer, &mut stream, version, &Open);
+    let (end, is_welcome) = write_link(rt, alloc, hub, peer, &mut stream, version, &OpenGate);
     let how = format!(in alloc; "{end} {is_welcome}").ok()?;
     ended(alloc, how, &stream)
 }
@@ -403,6 +403,7 @@ fn open<J: Naming>(
     requires sound { IsSound memory_disk member }
     requires fresh { MemberStandsFor member (member_saved member) [] }
     requires header { member_header member ≡ J.header }
+    requires opening { member_saved member ≡ J.opening }
     requires board { board ≡ J.names }
     requires cells { length board.cells ≡ (member_header member).size.questions }
 {
@@ -445,6 +446,7 @@ fn play_at<J: Naming, R: Wait + Clock>(
     requires sound { IsSound memory_disk member }
     requires fresh { MemberStandsFor member (member_saved member) [] }
     requires header { member_header member ≡ J.header }
+    requires opening { member_saved member ≡ J.opening }
     requires board { board ≡ J.names }
     requires cells { length board.cells ≡ (member_header member).size.questions }
 {

@@ -148,6 +148,7 @@ fn run(name: &str) -> Option<RunFault> {
         "Stream" => Some(RunFault::Stream),
         "Stopped" => Some(RunFault::Stopped),
         "Forgotten" => Some(RunFault::Forgotten),
+        "Torn" => Some(RunFault::Torn),
         "Memory" => Some(RunFault::Memory),
         _ => None,
     }

@@ -1,6 +1,7 @@
 //! Two links and an asker that run at once: begin at `links_and_an_asker_run_at_once`, last.
 ghost use Rattle.std.specs.Prelude.{◌≡◌, ◌<◌, length, IfOk, []};
 ghost use Rattle.terms_prelude.specs.Terms.{new_header, new_size};
+ghost use Rattle.member.specs.Memory.{memory_disk};
 ghost use Rattle.member.specs.Sound.{IsSound};
 ghost use Rattle.member.specs.Readers.{member_header, member_saved, MemberStandsFor};
 
@@ -76,7 +77,7 @@ fn header() -> Result<Header, Fail>
     Ok(Header::new(7, Size::new(4, 1, 1)?, 0).ok_or("a header")?)
 }
 
-/// The member, whose journal has a decision of question 0 for One.
+/// A member of this header, whose journal has a decision of question 0 for One.
 fn start<D: Disk + Drop>(alloc: Global, disk: D, header: &Header) -> Result<Member<D>, Fail>
     requires { 0 < header.now.size.questions }
     ensures sound { IfOk result (λ m. IsSound D.Disk m) }
@@ -94,20 +95,30 @@ fn start<D: Disk + Drop>(alloc: Global, disk: D, header: &Header) -> Result<Memb
     Ok(Member::open(alloc, journal.into_disk(), header)?)
 }
 
-/// A hub over the member, and its seats.
-fn open<D: Disk + Drop, J: Naming>(
-    alloc: Global,
-    disk: D,
-    header: &Header,
-    board: NewBoard,
-) -> Result<(Hub<D, J>, Rack<J>), Fail>
-    requires names { board ≡ J.names }
-    requires header { header.now ≡ J.header }
-    requires cells { length board.cells ≡ header.now.size.questions }
-    requires questions { 0 < header.now.size.questions }
+/// Member 0, which decided in an earlier life.
+fn member(alloc: Global) -> Result<Member<MemDisk>, Fail>
+    ensures sound { IfOk result (λ m. IsSound memory_disk m) }
+    ensures fresh { IfOk result (λ m. MemberStandsFor m (member_saved m) []) }
+    ensures header { IfOk result (λ m. member_header m ≡ new_header 7 (new_size 4 1 1) 0) }
 {
-    let member = start(alloc, disk, header)?;
-    let (hub, seats) = Hub::<D, J>::open(alloc, member, board)?;
+    let header = header()?;
+    start(alloc, MemDisk::new(alloc), &header)
+}
+
+/// A hub over the member, and its seats.
+fn open<J: Naming>(
+    alloc: Global,
+    member: Member<MemDisk>,
+    board: NewBoard,
+) -> Result<(Hub<MemDisk, J>, Rack<J>), Fail>
+    requires sound { IsSound memory_disk member }
+    requires fresh { MemberStandsFor member (member_saved member) [] }
+    requires header { member_header member ≡ J.header }
+    requires opening { member_saved member ≡ J.opening }
+    requires names { board ≡ J.names }
+    requires cells { length board.cells ≡ (member_header member).size.questions }
+{
+    let (hub, seats) = Hub::<MemDisk, J>::open(alloc, member, board)?;
     Ok((hub, Rack::new(seats)))
 }
 
@@ -239,18 +250,20 @@ fn run_at_once<J: Naming + Send + Sync, R: Threads + Wait + Clock + Abort + Allo
     Ok(())
 }
 
-/// Member 0, which decided in an earlier life.
+/// Runs two links of the member and an asker.
 fn at_once<J: Naming + Send + Sync, R: Threads + Wait + Clock + Abort + AllocGlobal + Sync>(
     rt: &R,
+    member: Member<MemDisk>,
     board: NewBoard,
 ) -> Result<(), Fail>
+    requires sound { IsSound memory_disk member }
+    requires fresh { MemberStandsFor member (member_saved member) [] }
+    requires header { member_header member ≡ J.header }
+    requires opening { member_saved member ≡ J.opening }
     requires names { board ≡ J.names }
-    requires header { J.header ≡ new_header 7 (new_size 4 1 1) 0 }
-    requires cells { length board.cells ≡ 1 }
+    requires cells { length board.cells ≡ (member_header member).size.questions }
 {
-    let alloc = rt.alloc();
-    let header = header()?;
-    let (hub, rack) = open::<MemDisk, J>(alloc, MemDisk::new(alloc), &header, board)?;
+    let (hub, rack) = open::<J>(rt.alloc(), member, board)?;
     run_at_once(rt, &hub, &rack)?;
     assert!(rt; closes(hub, rack.into_seats()));
     Ok(())
@@ -258,5 +271,7 @@ fn at_once<J: Naming + Send + Sync, R: Threads + Wait + Clock + Abort + AllocGlo
 
 #[test]
 fn links_and_an_asker_run_at_once(rt: HostRuntime) -> Result<(), Fail> {
-    at_once::<Brand, _>(&rt, NewBoard::new(rt.alloc(), 1)?)
+    let member = member(rt.alloc())?;
+    let board = NewBoard::new(rt.alloc(), 1)?;
+    at_once::<Brand, _>(&rt, member, board)
 }

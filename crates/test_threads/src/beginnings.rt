@@ -1,10 +1,11 @@
 //! What the tests begin with: a member on a new disk, its board and its seats, and statements.
-ghost use Rattle.std.specs.Prelude.{◌≡◌, ◌<◌, length, IfOk, []};
+ghost use Rattle.std.specs.Prelude.{◌≡◌, length, IfOk, []};
 ghost use Rattle.terms_prelude.specs.Terms.{new_header, new_size};
+ghost use Rattle.member.specs.Memory.{memory_disk};
 ghost use Rattle.member.specs.Sound.{IsSound};
 ghost use Rattle.member.specs.Readers.{member_header, member_saved, MemberStandsFor};
 
-use disk::Disk;
+use disk::MemDisk;
 use member::Member;
 use node::{Hub, Naming, NewBoard, Rack};
 use std::alloc::Global;
@@ -22,14 +23,15 @@ fn header() -> Result<Header, Fail>
 }
 
 /// A member on a new disk.
-fn start<D: Disk + Drop>(alloc: Global, disk: D, header: &Header) -> Result<Member<D>, Fail>
-    ensures sound { IfOk result (λ m. IsSound D.Disk m) }
+pub(crate) fn start(rt: &impl AllocGlobal) -> Result<Member<MemDisk>, Fail>
+    ensures sound { IfOk result (λ m. IsSound memory_disk m) }
     ensures fresh { IfOk result (λ m. MemberStandsFor m (member_saved m) []) }
-    ensures header { IfOk result (λ m. member_header m ≡ header.now) }
+    ensures header { IfOk result (λ m. member_header m ≡ new_header 7 (new_size 16 5 40) 1) }
 {
-    let mut disk = disk;
-    journal::create(&mut disk, header)?;
-    Ok(Member::open(alloc, disk, header)?)
+    let header = header()?;
+    let mut disk = MemDisk::new(rt.alloc());
+    journal::create(&mut disk, &header)?;
+    Ok(Member::open(rt.alloc(), disk, &header)?)
 }
 
 /// A board for the questions of the member.
@@ -39,19 +41,20 @@ pub(crate) fn board(rt: &impl AllocGlobal) -> Result<NewBoard, Fail>
     Ok(NewBoard::new(rt.alloc(), QUESTIONS)?)
 }
 
-/// A hub over a member on a new disk, and its seats.
-pub(crate) fn open<D: Disk + Drop, J: Naming>(
+/// A hub over a member that was just opened, and its seats.
+pub(crate) fn open<J: Naming>(
     alloc: Global,
-    disk: D,
+    member: Member<MemDisk>,
     board: NewBoard,
-) -> Result<(Hub<D, J>, Rack<J>), Fail>
+) -> Result<(Hub<MemDisk, J>, Rack<J>), Fail>
+    requires sound { IsSound memory_disk member }
+    requires fresh { MemberStandsFor member (member_saved member) [] }
+    requires header { member_header member ≡ J.header }
+    requires opening { member_saved member ≡ J.opening }
     requires names { board ≡ J.names }
-    requires header { J.header ≡ new_header 7 (new_size 16 5 40) 1 }
-    requires cells { length board.cells ≡ 40 }
+    requires cells { length board.cells ≡ (member_header member).size.questions }
 {
-    let header = header()?;
-    let member = start(alloc, disk, &header)?;
-    let (hub, seats) = Hub::<D, J>::open(alloc, member, board)?;
+    let (hub, seats) = Hub::<MemDisk, J>::open(alloc, member, board)?;
     Ok((hub, Rack::new(seats)))
 }
 

@@ -2,11 +2,14 @@
 //! another thread has the book, or while a client proposes; and by a link that finds nobody serving
 //! the line. And that the bell rings behind several groups. The clock by which a link pauses plays
 //! what happens in its pauses.
-ghost use Rattle.std.specs.Prelude.{◌≡◌, length};
-ghost use Rattle.terms_prelude.specs.Terms.{new_header, new_size};
+ghost use Rattle.std.specs.Prelude.{◌≡◌, [], length};
+ghost use Rattle.member.specs.Memory.{memory_disk};
+ghost use Rattle.member.specs.Sound.{IsSound};
+ghost use Rattle.member.specs.Readers.{member_header, member_saved, MemberStandsFor};
 
-use crate::beginnings::{QUESTIONS, at, board, open};
+use crate::beginnings::{QUESTIONS, at, board, open, start};
 use disk::MemDisk;
+use member::Member;
 use node::{Hub, Naming, NewBoard, Rack, Seat, close};
 use rounds::Toss;
 use std::marker::Brand;
@@ -314,19 +317,22 @@ fn closes<J: Naming>(hub: Hub<MemDisk, J>, rack: Rack<J>) -> bool {
     close(hub, rack.into_seats()).is_ok()
 }
 
-/// Opens the member and plays a scene. Whether it came out as it should, and the seats fit what the
-/// member heard.
+/// Has the member's hub opened and plays a scene. Whether it came out as it should, and the seats
+/// fit what the member heard.
 fn play<J: Naming + Send + Sync, R: Threads + Wait + Clock + AllocGlobal + Sync>(
     rt: &R,
+    member: Member<MemDisk>,
     board: NewBoard,
     scene: Scene,
 ) -> Result<bool, Fail>
+    requires sound { IsSound memory_disk member }
+    requires fresh { MemberStandsFor member (member_saved member) [] }
+    requires header { member_header member ≡ J.header }
+    requires opening { member_saved member ≡ J.opening }
     requires names { board ≡ J.names }
-    requires header { J.header ≡ new_header 7 (new_size 16 5 40) 1 }
-    requires cells { length board.cells ≡ 40 }
+    requires cells { length board.cells ≡ (member_header member).size.questions }
 {
-    let disk = MemDisk::new(rt.alloc());
-    let (hub, rack) = open::<MemDisk, J>(rt.alloc(), disk, board)?;
+    let (hub, rack) = open::<J>(rt.alloc(), member, board)?;
     let played = play_seated(rt, &hub, &rack, scene);
     let fits = closes(hub, rack);
     Ok(played && fits)
@@ -334,21 +340,24 @@ fn play<J: Naming + Send + Sync, R: Threads + Wait + Clock + AllocGlobal + Sync>
 
 #[test]
 fn a_link_pauses_while_a_client_proposes(rt: HostRuntime) -> Result<(), Fail> {
+    let member = start(&rt)?;
     let board = board(&rt)?;
-    assert!(&rt; play::<Brand, _>(&rt, board, Scene::Client)?);
+    assert!(&rt; play::<Brand, _>(&rt, member, board, Scene::Client)?);
     Ok(())
 }
 
 #[test]
 fn a_link_pauses_while_another_has_the_book(rt: HostRuntime) -> Result<(), Fail> {
+    let member = start(&rt)?;
     let board = board(&rt)?;
-    assert!(&rt; play::<Brand, _>(&rt, board, Scene::Lent)?);
+    assert!(&rt; play::<Brand, _>(&rt, member, board, Scene::Lent)?);
     Ok(())
 }
 
 #[test]
 fn the_bell_rings_behind_what_a_group_leaves(rt: HostRuntime) -> Result<(), Fail> {
+    let member = start(&rt)?;
     let board = board(&rt)?;
-    assert!(&rt; play::<Brand, _>(&rt, board, Scene::Full)?);
+    assert!(&rt; play::<Brand, _>(&rt, member, board, Scene::Full)?);
     Ok(())
 }

@@ -19,7 +19,7 @@ returns-in_ok-mark-in-Ok-clause-turn c liars s lawful steady cluster planned =
     lawful c.from.ensures c.bytes_in.ensures c.requires.ready.count plan right cluster
     (λ sized below post fits. c.in_ok-mark-in-Ok.ensures.done c.args.size liars s c.in-Ok.to sized below post fits (c.in_ok-group-in-Ok.ensures.brings liars s cluster right.fits))
     (saved_there c.args.posts.now c.from.result c.in-Ok.to c.carry.new.self (length c.records-before.result.now) c.from.ensures below
-    ∙ ap (λ (l : List Record). drop (length l) (saved_in c.carry.new.self.seat)) c.records-before.ensures)
+    ∙ ap (λ (l : List Record). drop (length l) (saved_in c.carry.new.self.presence)) c.records-before.ensures)
 
 pub returns-in_ok-mark-in-Ok-clause-room : goal.returns-in_ok-mark-in-Ok-clause-room
 returns-in_ok-mark-in-Ok-clause-room c =
@@ -28,7 +28,7 @@ returns-in_ok-mark-in-Ok-clause-room c =
     let few : length c.records-after.result.now < 2 ^ 63 = omega arith in
     subst (λ (l : List Record). length l < 2 ^ 63)
     (sym (saved_there c.args.posts.now c.from.result c.in-Ok.to c.carry.new.self (length c.records-before.result.now) c.from.ensures below))
-    (few_behind (saved_in c.carry.new.self.seat) (length c.records-before.result.now) (subst (λ (l : List Record). length l < 2 ^ 63) c.records-after.ensures few))
+    (few_behind (saved_in c.carry.new.self.presence) (length c.records-before.result.now) (subst (λ (l : List Record). length l < 2 ^ 63) c.records-after.ensures few))
 
 pub returns-in-Err-clause-turn : goal.returns-in-Err-clause-turn
 returns-in-Err-clause-turn c liars s lawful steady cluster planned =

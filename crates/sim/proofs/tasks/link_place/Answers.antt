@@ -13,7 +13,7 @@ returns-clause-place c liars s cluster =
     let sender = post_at c.args.size liars s c.args.posts.now c.from-2.result c.args.from c.index-posts-from-2.result c.from-2.ensures c.index-posts-from-2.is lf cluster in
     let hf : liars c.args.from ≡ false = sym sender.side ∙ sym c.if-is_liar.ensures in
     let ht : liars c.args.to ≡ false = sym receiver.side ∙ sym c.if-is_liar-2.ensures in
-    let up : is_none (s.world.doubt c.args.to) ≡ true = sym (up_is c.args.size c.args.to s.world c.index-posts-from.result.seat (receiver.at ht)) ∙ sym c.if-not-is_up.ensures in
+    let up : is_none (s.world.doubt c.args.to) ≡ true = sym (up_is c.args.size c.args.to s.world c.index-posts-from.result.presence (receiver.at ht)) ∙ sym c.if-not-is_up.ensures in
     let any : Link = record { place = 0; size = c.args.size; end = Rest [] } in
     let place : c.place.result ≡ s.place c.args.from c.args.to = c.place.ensures any ∙ (receiver.links c.args.from any lf).place_is in
     ap (λ (k : ℕ). Ok k) place

@@ -12,7 +12,7 @@ returns-in-Ok-clause-ok g c =
     → verdict_of c.args.self.now.opening c.args.question ≡ None → IsHeardProof c.args.self.now c.args.question c.in-Some.bit =
     subst (λ (b : BookView g.row.D.Denot). (c.args.question < questions_of b) → verdict_of (member_saved b.member) c.args.question ≡ Some c.in-Some.bit
     → verdict_of b.opening c.args.question ≡ None → IsHeardProof b c.args.question c.in-Some.bit) c.self.view_is
-    (kept_shows g.D.Disk g.J.Naming.names.cells g.J.Naming.header c.self.inside.notes.cells c.self.inside.member c.self.inside.opened c.self.inside.history.entries c.self.inside.notes.known c.self.inside.tally
+    (kept_shows g.D.Disk g.J.Naming.names.cells g.J.Naming.header c.self.inside.publisher.cells c.self.inside.member c.self.inside.opened c.self.inside.history.entries c.self.inside.publisher.known c.self.inside.tally
     c.self.invariant.0 c.args.question c.in-Some.bit) in
     record {
       asked = asked;

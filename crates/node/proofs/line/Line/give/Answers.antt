@@ -4,7 +4,7 @@ use Rattle.terms_prelude.specs.Terms.{Statement}
 use Rattle.rounds.specs.declared.tosses.Toss.{Toss}
 use Rattle.member.specs.Groups.{hearings}
 use Rattle.node.specs.Lines.{HasCome}
-use Rattle.node.specs.declared.batch.Part.{Part}
+use Rattle.node.specs.declared.group.Part.{Part}
 use Rattle.node.proofs.Shares.{first_of_all, others_of_all, came_of_all}
 use Rattle.node.proofs.line.Line.give.Goals as goal
 
@@ -18,8 +18,8 @@ loop-part-init g c = record {
   can_next = tt;
   is_finite = tt;
   came = subst (λ (l : List Part). All (λ (part : Part). HasCome g.row.D.Denot (hearings part.events.items) c.heard.inside.outcome) l) (sym c.into_iter-part-iterator.ensures.into_iter_gives.0)
-      (came_of_all g.row.D.Denot c.batch.inside.parts.items c.batch.inside.events.items c.heard.inside.outcome c.batch.invariant.1
-      (subst (λ (l : List (ℕ × Statement × Toss)). HasCome g.row.D.Denot (hearings l) c.heard.inside.outcome) (sym c.batch.view_is) c.heard.invariant));
+      (came_of_all g.row.D.Denot c.group.inside.parts.items c.group.inside.events.items c.heard.inside.outcome c.group.invariant.1
+      (subst (λ (l : List (ℕ × Statement × Toss)). HasCome g.row.D.Denot (hearings l) c.heard.inside.outcome) (sym c.group.view_is) c.heard.invariant));
 }
 
 pub loop-part-preserved-in-Some-get_mut : goal.loop-part-preserved-in-Some-get_mut

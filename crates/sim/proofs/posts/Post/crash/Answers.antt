@@ -1,4 +1,4 @@
-use Rattle.sim.specs.Seats.{mine}
+use Rattle.sim.specs.Presences.{mine}
 use Rattle.sim.proofs.Done.{crash_done}
 use Rattle.sim.proofs.posts.Post.crash.Goals as goal
 

@@ -1,4 +1,4 @@
-use Rattle.sim.specs.Seats.{mine}
+use Rattle.sim.specs.Presences.{mine}
 use Rattle.sim.proofs.Done.{fuse_set}
 use Rattle.sim.proofs.posts.Post.fuse.Goals as goal
 

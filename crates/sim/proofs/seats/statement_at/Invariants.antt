@@ -1,6 +1,0 @@
-use Rattle.std.proofs.Common.{◌≡◌, drop}
-use Rattle.sim.specs.Seats.{nth_said}
-use Rattle.sim.proofs.seats.statement_at.Given as goal
-
-abbrev pub invariant-loop-item : goal.invariant-loop-item
-invariant-loop-item l = nth_said l.records l.fn.number ≡ nth_said (drop l.item-index l.records) l.left
