@@ -12,7 +12,7 @@ use Rattle.node.specs.Views.{BookView}
 use Rattle.node.specs.States.{IsState}
 use Rattle.node.specs.declared.state.QuestionState.{QuestionState}
 use Rattle.node.specs.declared.transcript.Transcript.{Transcript as Text}
-use Rattle.terms_prelude.specs.Terms.{Header}
+use Rattle.terms_prelude.specs.Terms.{Header, Record}
 use Rattle.links.specs.Told.{Told, has_written, has_failed, has_ended, BreaksOff}
 use Rattle.member.specs.Readers.{member_is_stopped}
 use Rattle.desk.specs.Lines.{AsksToFollow, LineAsks, IsRequest}
@@ -43,92 +43,92 @@ pub record LooksOn {T : Type 0} (before after : Sitting T) : Type 0 where
   pub later : IsPrefix before.log after.log
 
 -- what the hub's book replies to a proposal that is done to it once, with the toss that was drawn for it
-pub record IsProposalReply {T : Type 0} (D : Type 0) (may_toss : T → ℕ → T → Type 0) (header : Header) (before : T) (question : ℕ) (bit : Bool) (log : List Group) (reply : Reply) (after : T) : Type 0 where
+pub record IsProposalReply {T : Type 0} (D : Type 0) (may_toss : T → ℕ → T → Type 0) (header : Header) (opening : List Record) (before : T) (question : ℕ) (bit : Bool) (log : List Group) (reply : Reply) (after : T) : Type 0 where
   pub toss : ℕ
   pub drawn : may_toss before toss after
   pub old : BookView D
-  pub old_is : IsBookAt header log old
+  pub old_is : IsBookAt header opening log old
   pub new : BookView D
-  pub new_is : IsBookAt header log new
+  pub new_is : IsBookAt header opening log new
   pub proposes : Proposes old question bit toss reply new
 
 -- what the hub's book replies where it is asked how far it is; a toss is drawn for it too
-pub record IsStatusReply {T : Type 0} (D : Type 0) (may_toss : T → ℕ → T → Type 0) (header : Header) (before : T) (log : List Group) (reply : Reply) (after : T) : Type 0 where
+pub record IsStatusReply {T : Type 0} (D : Type 0) (may_toss : T → ℕ → T → Type 0) (header : Header) (opening : List Record) (before : T) (log : List Group) (reply : Reply) (after : T) : Type 0 where
   pub toss : ℕ
   pub drawn : may_toss before toss after
   pub book : BookView D
-  pub book_is : IsBookAt header log book
+  pub book_is : IsBookAt header opening log book
   pub status : reply ≡ status_reply book
 
 -- how many links are up, each way no more than there are members, where the hub's book is asked whether its member is
-pub record IsLinksReply (D : Type 0) (header : Header) (log : List Group) (reply : Reply) : Type 0 where
+pub record IsLinksReply (D : Type 0) (header : Header) (opening : List Record) (log : List Group) (reply : Reply) : Type 0 where
   pub book : BookView D
-  pub book_is : IsBookAt header log book
+  pub book_is : IsBookAt header opening log book
   pub count : LinkCount
   pub incoming : count.incoming ≤ header.size.n
   pub outgoing : count.outgoing ≤ header.size.n
   pub links : reply ≡ links_reply book count
 
 -- how a question stands at the member of the hub's book
-pub record IsStateTold (D : Type 0) (header : Header) (log : List Group) (question : ℕ) (reply : Reply) : Type 0 where
+pub record IsStateTold (D : Type 0) (header : Header) (opening : List Record) (log : List Group) (question : ℕ) (reply : Reply) : Type 0 where
   pub book : BookView D
-  pub book_is : IsBookAt header log book
+  pub book_is : IsBookAt header opening log book
   pub state : Option QuestionState
   pub state_is : IsState book question state
   pub told : reply ≡ state_reply state
 
 -- what the hub's book replies to who asks for a transcript
-pub record IsTranscriptTold (D : Type 0) (header : Header) (log : List Group) (question : ℕ) (reply : Reply) : Type 0 where
+pub record IsTranscriptTold (D : Type 0) (header : Header) (opening : List Record) (log : List Group) (question : ℕ) (reply : Reply) : Type 0 where
   pub book : BookView D
-  pub book_is : IsBookAt header log book
+  pub book_is : IsBookAt header opening log book
   pub told : IsTranscriptReply book question reply
   -- no statement is told that wasn't heard, and of each member just its firsts on the question are
   pub heard : (asked : ℕ) (text : Text) → reply ≡ TellsTranscript asked text → WereHeard log text.heard.items
   pub firsts : (asked : ℕ) (text : Text) → reply ≡ TellsTranscript asked text → AreFirstsOn log question text.heard.items
 
 -- the hub's book has a member that is stopped
-pub record IsStoppedAt (D : Type 0) (header : Header) (log : List Group) : Type 0 where
+pub record IsStoppedAt (D : Type 0) (header : Header) (opening : List Record) (log : List Group) : Type 0 where
   pub book : BookView D
-  pub book_is : IsBookAt header log book
+  pub book_is : IsBookAt header opening log book
   pub stopped : member_is_stopped book.member ≡ true
 
 -- the reply to who waits for a decision, by what is known then: that decision; or that there is none yet, or that the member
 -- of the hub's book is stopped
-abbrev pub IsAwaitReply : Type 0 → Header → List Group → Option Bool → Reply → Type 0
-IsAwaitReply D header log (Some bit) reply = reply ≡ Decided bit
-IsAwaitReply D header log None reply = (reply ≡ Undecided) ⊎ ((reply ≡ Stopped) × IsStoppedAt D header log)
+abbrev pub IsAwaitReply : Type 0 → Header → List Record → List Group → Option Bool → Reply → Type 0
+IsAwaitReply D header opening log (Some bit) reply = reply ≡ Decided bit
+IsAwaitReply D header opening log None reply = (reply ≡ Undecided) ⊎ ((reply ≡ Stopped) × IsStoppedAt D header opening log)
 
 -- the reply to a command, by the hub's book as far as the session sees it then
-abbrev pub AnswersCommand : {T : Type 0} → Type 0 → (T → ℕ → T → Type 0) → Header → Sitting T → Command → Reply → Sitting T → Type 0
-AnswersCommand D may_toss header before (Propose question bit) reply after =
-    LooksOn before after × IsProposalReply D may_toss header before.tosser question bit after.log reply after.tosser
+abbrev pub AnswersCommand : {T : Type 0} → Type 0 → (T → ℕ → T → Type 0) → Header → List Record → Sitting T → Command → Reply → Sitting T → Type 0
+AnswersCommand D may_toss header opening before (Propose question bit) reply after =
+    LooksOn before after × IsProposalReply D may_toss header opening before.tosser question bit after.log reply after.tosser
 -- what was known stays known, and the reply is what is known then
-AnswersCommand D may_toss header before (Ask question) reply after =
+AnswersCommand D may_toss header opening before (Ask question) reply after =
     (after.tosser ≡ before.tosser) × (after.log ≡ before.log) × KnowsMore before.known after.known
     × (reply ≡ verdict_reply (known_at after.known question))
-AnswersCommand D may_toss header before (Await question) reply after =
+AnswersCommand D may_toss header opening before (Await question) reply after =
     (after.tosser ≡ before.tosser) × IsPrefix before.log after.log × KnowsMore before.known after.known
-    × IsAwaitReply D header after.log (known_at after.known question) reply
-AnswersCommand D may_toss header before Status reply after =
-    LooksOn before after × IsStatusReply D may_toss header before.tosser after.log reply after.tosser
+    × IsAwaitReply D header opening after.log (known_at after.known question) reply
+AnswersCommand D may_toss header opening before Status reply after =
+    LooksOn before after × IsStatusReply D may_toss header opening before.tosser after.log reply after.tosser
 -- no toss is drawn
-AnswersCommand D may_toss header before (Transcript question) reply after =
-    (after.tosser ≡ before.tosser) × LooksOn before after × IsTranscriptTold D header after.log question reply
-AnswersCommand D may_toss header before (State question) reply after =
-    (after.tosser ≡ before.tosser) × LooksOn before after × IsStateTold D header after.log question reply
-AnswersCommand D may_toss header before Links reply after =
-    (after.tosser ≡ before.tosser) × LooksOn before after × IsLinksReply D header after.log reply
+AnswersCommand D may_toss header opening before (Transcript question) reply after =
+    (after.tosser ≡ before.tosser) × LooksOn before after × IsTranscriptTold D header opening after.log question reply
+AnswersCommand D may_toss header opening before (State question) reply after =
+    (after.tosser ≡ before.tosser) × LooksOn before after × IsStateTold D header opening after.log question reply
+AnswersCommand D may_toss header opening before Links reply after =
+    (after.tosser ≡ before.tosser) × LooksOn before after × IsLinksReply D header opening after.log reply
 
 -- the reply to a command, or the refusal where there is none
-abbrev pub AnswersRequest : {T : Type 0} → Type 0 → (T → ℕ → T → Type 0) → Header → Sitting T → Result Command Reply → Reply → Sitting T → Type 0
-AnswersRequest D may_toss header before (Ok command) reply after = AnswersCommand D may_toss header before command reply after
-AnswersRequest D may_toss header before (Err refusal) reply after = (reply ≡ refusal) × (after ≡ before)
+abbrev pub AnswersRequest : {T : Type 0} → Type 0 → (T → ℕ → T → Type 0) → Header → List Record → Sitting T → Result Command Reply → Reply → Sitting T → Type 0
+AnswersRequest D may_toss header opening before (Ok command) reply after = AnswersCommand D may_toss header opening before command reply after
+AnswersRequest D may_toss header opening before (Err refusal) reply after = (reply ≡ refusal) × (after ≡ before)
 
 -- the reply to a line, by the hub with that header
-abbrev pub AnswersLine : {T : Type 0} → Type 0 → (T → ℕ → T → Type 0) → Header → Sitting T → List ℕ → Reply → Sitting T → Type 0
-AnswersLine D may_toss header before asked reply after =
+abbrev pub AnswersLine : {T : Type 0} → Type 0 → (T → ℕ → T → Type 0) → Header → List Record → Sitting T → List ℕ → Reply → Sitting T → Type 0
+AnswersLine D may_toss header opening before asked reply after =
     (AsksNothing asked × (reply ≡ BadLine) × (after ≡ before))
-    ⊎ ((request : LineRequest) × LineAsks asked request × AnswersRequest D may_toss header before (command_for header.size.questions request) reply after)
+    ⊎ ((request : LineRequest) × LineAsks asked request × AnswersRequest D may_toss header opening before (command_for header.size.questions request) reply after)
 
 -- a line without its byte 10
 pub record IsLine (bytes : List ℕ) : Type 0 where

@@ -73,8 +73,8 @@ pub(crate) fn propose_for<D: Disk, J: Naming>(
     requires { pass.old.board ≡ J.names }
     ensures none { IfNone result (pass.new ≡ pass.old) }
     ensures sees { IfSome result (λ _. SeesOn pass.old pass.new) }
-    ensures old { IfSome result (λ _. IsBookAt J.header pass.new.log book.old) }
-    ensures new { IfSome result (λ _. IsBookAt J.header pass.new.log book.new) }
+    ensures old { IfSome result (λ _. IsBookAt J.header J.opening pass.new.log book.old) }
+    ensures new { IfSome result (λ _. IsBookAt J.header J.opening pass.new.log book.new) }
     ensures reply { IfSome result
         (λ reply. Proposes book.old question bit toss.0 reply book.new) }
 {
@@ -205,7 +205,7 @@ pub(crate) fn dossier_for<D: Disk, J: Naming>(
     requires { pass.old.board ≡ J.names }
     ensures none { IfNone result (pass.new ≡ pass.old) }
     ensures sees { IfSome result (λ _. SeesOn pass.old pass.new) }
-    ensures book { IfSome result (λ _. IsBookAt J.header pass.new.log book.now) }
+    ensures book { IfSome result (λ _. IsBookAt J.header J.opening pass.new.log book.now) }
     ensures ok { IfSome result (λ asked. IfOk asked
         (λ dossier. MayBeShown book.now question × IsDossier book.now question dossier)) }
     ensures err { IfSome result (λ asked. IfErr asked (IsTranscriptReply book.now question)) }

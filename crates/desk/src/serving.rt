@@ -164,7 +164,7 @@ impl<D: Disk, J: Naming, R: Wait + Clock> Server<'_, D, J, R> {
     fn transcript_of(&self, pass: &mut Pass, question: u16) -> Reply
         requires { pass.old.board ≡ J.names }
         ensures sees { SeesOn pass.old pass.new }
-        ensures told { IsTranscriptTold D self.now.hub.now pass.new.log question result }
+        ensures told { IsTranscriptTold D self.now.hub.now J.opening pass.new.log question result }
     {
         let _named = self.hub.header();
         let mut turn = self.turn_to_transcribe();
@@ -187,7 +187,7 @@ impl<D: Disk, J: Naming, R: Wait + Clock> Server<'_, D, J, R> {
     fn propose<T: Tosser>(&self, pass: &mut Pass, tosser: &mut T, question: u16, bit: bool) -> Reply
         requires { pass.old.board ≡ J.names }
         ensures sees { SeesOn pass.old pass.new }
-        ensures reply { IsProposalReply D T.may_toss self.now.hub.now tosser.old question bit
+        ensures reply { IsProposalReply D T.may_toss self.now.hub.now J.opening tosser.old question bit
             pass.new.log result tosser.new }
     {
         let _named = self.hub.header();
@@ -208,7 +208,7 @@ impl<D: Disk, J: Naming, R: Wait + Clock> Server<'_, D, J, R> {
     fn without_decision(&self, pass: &mut Pass, begun: u64) -> Option<Reply>
         requires { pass.old.board ≡ J.names }
         ensures sees { SeesOn pass.old pass.new }
-        ensures reply { IfSome result (IsAwaitReply D self.now.hub.now pass.new.log None) }
+        ensures reply { IfSome result (IsAwaitReply D self.now.hub.now J.opening pass.new.log None) }
     {
         if self.hub.status(self.rt, pass).is_none() {
             return Some(Reply::Stopped);
@@ -234,7 +234,7 @@ impl<D: Disk, J: Naming, R: Wait + Clock> Server<'_, D, J, R> {
         ensures board { pass.new.board ≡ J.names }
         ensures later { IsPrefix pass.old.log pass.new.log }
         ensures more { KnowsMore pass.old.known pass.new.known }
-        ensures reply { IsAwaitReply D self.now.hub.now pass.new.log
+        ensures reply { IsAwaitReply D self.now.hub.now J.opening pass.new.log
             (known_at pass.new.known question) result.0 }
         ensures told { MatchBool result.1
             (has_written (S.told stream.new) held.new.items
@@ -265,7 +265,7 @@ impl<D: Disk, J: Naming, R: Wait + Clock> Server<'_, D, J, R> {
     fn status<T: Tosser>(&self, pass: &mut Pass, tosser: &mut T) -> Reply
         requires { pass.old.board ≡ J.names }
         ensures sees { SeesOn pass.old pass.new }
-        ensures reply { IsStatusReply D T.may_toss self.now.hub.now tosser.old pass.new.log result
+        ensures reply { IsStatusReply D T.may_toss self.now.hub.now J.opening tosser.old pass.new.log result
             tosser.new }
     {
         let _toss = tosser.toss();
@@ -276,16 +276,16 @@ impl<D: Disk, J: Naming, R: Wait + Clock> Server<'_, D, J, R> {
     fn state_of(&self, pass: &mut Pass, question: u16) -> Reply
         requires { pass.old.board ≡ J.names }
         ensures sees { SeesOn pass.old pass.new }
-        ensures told { IsStateTold D self.now.hub.now pass.new.log question result }
+        ensures told { IsStateTold D self.now.hub.now J.opening pass.new.log question result }
     {
-        state_reply(self.hub.state(self.rt, pass, question))
+        state_reply(self.hub.state_for(self.rt, pass, question))
     }
 
     /// Returns how many links are up, if the member is, by what the hub shows of it.
     fn links(&self, pass: &mut Pass) -> Reply
         requires { pass.old.board ≡ J.names }
         ensures sees { SeesOn pass.old pass.new }
-        ensures reply { IsLinksReply D self.now.hub.now pass.new.log result }
+        ensures reply { IsLinksReply D self.now.hub.now J.opening pass.new.log result }
     {
         let count = self.hub.links(self.rt);
         let size = self.hub.header().size();
@@ -317,7 +317,7 @@ impl<D: Disk, J: Naming, R: Wait + Clock> Server<'_, D, J, R> {
     ) -> (Reply, bool)
         requires { pass.old.board ≡ J.names }
         ensures board { pass.new.board ≡ J.names }
-        ensures reply { AnswersCommand D T.may_toss
+        ensures reply { AnswersCommand D T.may_toss self.now.hub.now J.opening
             (sitting pass.old tosser.old) command result.0
             (sitting pass.new tosser.new) }
         ensures told { MatchBool result.1
@@ -353,7 +353,7 @@ impl<D: Disk, J: Naming, R: Wait + Clock> Server<'_, D, J, R> {
     ) -> (Reply, bool)
         requires { pass.old.board ≡ J.names }
         ensures board { pass.new.board ≡ J.names }
-        ensures reply { AnswersLine D T.may_toss self.now.hub.now
+        ensures reply { AnswersLine D T.may_toss self.now.hub.now J.opening
             (sitting pass.old tosser.old) sheet.old.line result.0
             (sitting pass.new tosser.new) }
         ensures told { MatchBool result.1
@@ -382,14 +382,14 @@ impl<D: Disk, J: Naming, R: Wait + Clock> Server<'_, D, J, R> {
         ensures board { pass.new.board ≡ J.names }
         ensures line { sheet.new.line ≡ [] }
         ensures ok { OnOk result
-            (Says (λ said. AnswersLine D T.may_toss self.now.hub.now
+            (Says (λ said. AnswersLine D T.may_toss self.now.hub.now J.opening
             (sitting pass.old tosser.old) sheet.old.line said
             (sitting pass.new tosser.new))
             (has_written (S.told stream.old) sheet.old.replies.items)
             (has_written (S.told stream.new) sheet.new.replies.items)) }
         ensures err { IfErr result
             (λ why. (why ≡ DeskEnd.Lost) × FailsToSay
-            (λ said. AnswersLine D T.may_toss self.now.hub.now
+            (λ said. AnswersLine D T.may_toss self.now.hub.now J.opening
             (sitting pass.old tosser.old) sheet.old.line said
             (sitting pass.new tosser.new))
             (has_written (S.told stream.old) sheet.old.replies.items) (S.told stream.new)) }
@@ -414,17 +414,17 @@ impl<D: Disk, J: Naming, R: Wait + Clock> Server<'_, D, J, R> {
         requires { pass.old.board ≡ J.names }
         ensures board { pass.new.board ≡ J.names }
         ensures on { (begun : Sitting T) (old : Told) (more : List ℕ) →
-            Serving (AnswersLine D T.may_toss self.now.hub.now) begun
+            Serving (AnswersLine D T.may_toss self.now.hub.now J.opening) begun
             (sitting pass.old tosser.old) old
             (has_written (S.told stream.old) sheet.old.replies.items) sheet.old.line (byte ∷ more) →
-            OnOk result (Serving (AnswersLine D T.may_toss self.now.hub.now) begun
+            OnOk result (Serving (AnswersLine D T.may_toss self.now.hub.now J.opening) begun
             (sitting pass.new tosser.new) old
             (has_written (S.told stream.new) sheet.new.replies.items) sheet.new.line more) }
         ensures off { (begun : Sitting T) (old : Told) (more : List ℕ) →
-            Serving (AnswersLine D T.may_toss self.now.hub.now) begun
+            Serving (AnswersLine D T.may_toss self.now.hub.now J.opening) begun
             (sitting pass.old tosser.old) old
             (has_written (S.told stream.old) sheet.old.replies.items) sheet.old.line (byte ∷ more) →
-            IfErr result (Leaves (AnswersLine D T.may_toss self.now.hub.now) begun
+            IfErr result (Leaves (AnswersLine D T.may_toss self.now.hub.now J.opening) begun
             (sitting pass.new tosser.new) old (S.told stream.new) sheet.new.replies.items) }
     {
         match sheet.line.read(byte) {
@@ -454,17 +454,17 @@ impl<D: Disk, J: Naming, R: Wait + Clock> Server<'_, D, J, R> {
         requires { pass.old.board ≡ J.names }
         ensures board { pass.new.board ≡ J.names }
         ensures on { (begun : Sitting T) (old : Told) →
-            Serving (AnswersLine D T.may_toss self.now.hub.now) begun
+            Serving (AnswersLine D T.may_toss self.now.hub.now J.opening) begun
             (sitting pass.old tosser.old) old
             (has_written (S.told stream.old) sheet.old.replies.items) sheet.old.line piece.now →
-            OnOk result (Serving (AnswersLine D T.may_toss self.now.hub.now) begun
+            OnOk result (Serving (AnswersLine D T.may_toss self.now.hub.now J.opening) begun
             (sitting pass.new tosser.new) old
             (has_written (S.told stream.new) sheet.new.replies.items) sheet.new.line []) }
         ensures off { (begun : Sitting T) (old : Told) →
-            Serving (AnswersLine D T.may_toss self.now.hub.now) begun
+            Serving (AnswersLine D T.may_toss self.now.hub.now J.opening) begun
             (sitting pass.old tosser.old) old
             (has_written (S.told stream.old) sheet.old.replies.items) sheet.old.line piece.now →
-            IfErr result (Leaves (AnswersLine D T.may_toss self.now.hub.now) begun
+            IfErr result (Leaves (AnswersLine D T.may_toss self.now.hub.now J.opening) begun
             (sitting pass.new tosser.new) old (S.told stream.new) sheet.new.replies.items) }
     {
         for byte in piece {
@@ -487,9 +487,9 @@ impl<D: Disk, J: Naming, R: Wait + Clock> Server<'_, D, J, R> {
         ensures board { pass.new.board ≡ J.names }
         ensures off { (begun : Sitting T) (old : Told) (before : Told) →
             has_written (S.told stream.old) sheet.old.replies.items ≡ has_ended before →
-            Serving (AnswersLine D T.may_toss self.now.hub.now) begun
+            Serving (AnswersLine D T.may_toss self.now.hub.now J.opening) begun
             (sitting pass.old tosser.old) old before sheet.old.line [] →
-            Leaves (AnswersLine D T.may_toss self.now.hub.now) begun
+            Leaves (AnswersLine D T.may_toss self.now.hub.now J.opening) begun
             (sitting pass.new tosser.new) old
             (S.told stream.new) sheet.new.replies.items result }
     {
@@ -513,17 +513,17 @@ impl<D: Disk, J: Naming, R: Wait + Clock> Server<'_, D, J, R> {
         requires { pass.old.board ≡ J.names }
         ensures board { pass.new.board ≡ J.names }
         ensures on { (begun : Sitting T) (old : Told) →
-            Serving (AnswersLine D T.may_toss self.now.hub.now) begun
+            Serving (AnswersLine D T.may_toss self.now.hub.now J.opening) begun
             (sitting pass.old tosser.old) old
             (has_written (S.told stream.old) sheet.old.replies.items) sheet.old.line [] →
-            OnOk result (Serving (AnswersLine D T.may_toss self.now.hub.now) begun
+            OnOk result (Serving (AnswersLine D T.may_toss self.now.hub.now J.opening) begun
             (sitting pass.new tosser.new) old
             (has_written (S.told stream.new) sheet.new.replies.items) sheet.new.line []) }
         ensures off { (begun : Sitting T) (old : Told) →
-            Serving (AnswersLine D T.may_toss self.now.hub.now) begun
+            Serving (AnswersLine D T.may_toss self.now.hub.now J.opening) begun
             (sitting pass.old tosser.old) old
             (has_written (S.told stream.old) sheet.old.replies.items) sheet.old.line [] →
-            IfErr result (Leaves (AnswersLine D T.may_toss self.now.hub.now) begun
+            IfErr result (Leaves (AnswersLine D T.may_toss self.now.hub.now J.opening) begun
             (sitting pass.new tosser.new) old (S.told stream.new) sheet.new.replies.items) }
     {
         let mut piece = [0u8; PIECE];
@@ -569,7 +569,7 @@ pub fn serve<D: Disk, J: Naming, S: Stream, T: Tosser, R: Wait + Clock>(
     ensures board { pass.new.board ≡ J.names }
     // Each reply is that to its line, by what the pass knows then, by the hub's book as far as the
     // pass has seen it then, and with the tosses of the tosser, one a command.
-    ensures serves { ServesTogether (AnswersLine D T.may_toss desk.entry.hub.now)
+    ensures serves { ServesTogether (AnswersLine D T.may_toss desk.entry.hub.now J.opening)
         (sitting pass.old tosser.old) (sitting pass.new tosser.new) (S.told stream.old)
         (S.told stream.new) result }
 {

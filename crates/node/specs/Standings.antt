@@ -1,6 +1,6 @@
 -- How far the member of a book is.
 use Rattle.std.specs.Prelude.{ℕ, ◌≡◌, List, Option, Some, None, length, slice_get, if◌then◌else◌}
-use Rattle.terms_prelude.specs.Terms.{Header}
+use Rattle.terms_prelude.specs.Terms.{Header, Record}
 use Rattle.member.specs.Sealed.{sealed_from}
 use Rattle.member.specs.Readers.{member_header, member_saved, member_is_stopped}
 use Rattle.member.specs.declared.sealed.Sealed.{Sealed}
@@ -24,15 +24,16 @@ pub record IsBookOf {D : Type 0} (header : Header) (b : BookView D) : Type 0 whe
   pub replayed : IsReplayed b.member b.opening b.history
   pub tied : IsTied b.member b.history b.log
 
--- the book is of that hub, and its account has these groups
-pub record IsBookAt {D : Type 0} (header : Header) (log : List Group) (b : BookView D) : Type 0 where
+-- the book is of that hub, whose member opened with these records, and its account has these groups
+pub record IsBookAt {D : Type 0} (header : Header) (opening : List Record) (log : List Group) (b : BookView D) : Type 0 where
   pub of_hub : IsBookOf header b
+  pub opening_is : b.opening ≡ opening
   pub log_is : b.log ≡ log
 
 -- that far is the member of that hub's book when its account has these groups
-pub record IsStanding (D : Type 0) (header : Header) (log : List Group) (status : Option (ℕ × ℕ)) : Type 0 where
+pub record IsStanding (D : Type 0) (header : Header) (opening : List Record) (log : List Group) (status : Option (ℕ × ℕ)) : Type 0 where
   pub book : BookView D
-  pub book_is : IsBookAt header log book
+  pub book_is : IsBookAt header opening log book
   pub status_is : status ≡ status_of book
 
 -- the member of some book of that hub has saved this decision, with that number in the order of its journal

@@ -29,7 +29,7 @@ pub record IsState {D : Type 0} (b : BookView D) (question : ℕ) (state : Optio
       → member_is_stopped b.member ≡ false → IsOpenState (member_saved b.member) (member_header b.member).me question state
 
 -- it is that at the member of that hub's book when its account has these groups
-pub record IsStateOf (D : Type 0) (header : Header) (log : List Group) (question : ℕ) (state : Option QuestionState) : Type 0 where
+pub record IsStateOf (D : Type 0) (header : Header) (opening : List Record) (log : List Group) (question : ℕ) (state : Option QuestionState) : Type 0 where
   pub book : BookView D
-  pub book_is : IsBookAt header log book
+  pub book_is : IsBookAt header opening log book
   pub state_is : IsState book question state

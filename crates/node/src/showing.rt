@@ -42,7 +42,7 @@ impl<D: Disk, J: Naming> Model for Published<D, J> {
           log = p.at;
         } };
 
-    ghost invariant = { λ p. IsStanding D J.header p.at p.status
+    ghost invariant = { λ p. IsStanding D J.header J.opening p.at p.status
         × AreDecisionsOf D J.header p.decisions.items };
 }
 
@@ -122,7 +122,7 @@ impl<D: Disk, J: Naming> Published<D, J> {
     /// outbox, and how many questions it had decided; none where it was stopped.
     pub(crate) fn status(&self) -> Option<(u64, u16)>
         ensures status { result ≡ self.now.status }
-        ensures standing { IsStanding D J.header self.now.log result }
+        ensures standing { IsStanding D J.header J.opening self.now.log result }
     {
         self.status
     }
@@ -132,7 +132,7 @@ impl<D: Disk, J: Naming> Published<D, J> {
     pub(crate) fn tell(&self, pass: &mut Pass) -> Option<Option<(u64, u16)>>
         requires { pass.old.board ≡ J.names }
         ensures some { IfSome result
-            (λ status. SeesOn pass.old pass.new × IsStanding D J.header pass.new.log status) }
+            (λ status. SeesOn pass.old pass.new × IsStanding D J.header J.opening pass.new.log status) }
         ensures none { IfNone result (pass.new ≡ pass.old) }
     {
         if !pass.go_on(&self.at) {
@@ -169,6 +169,7 @@ impl<D: Disk, J: Naming> Published<D, J> {
 fn status_of<D: Disk, J: Naming>(book: &Book<D, J>) -> Option<(u64, u16)>
     ensures status { result ≡ status_of book.now }
     ensures book { IsBookOf J.header book.now }
+    ensures opening { book.now.opening ≡ J.opening }
 {
     let _named = book.header();
     let _replayed = book.records();

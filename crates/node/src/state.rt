@@ -38,20 +38,32 @@ pub(crate) fn state_at(progress: Option<(u8, u8)>) -> QuestionState
     }
 }
 
-/// The state of a question at the member of a book, which is one of its hub's, for a pass of its
-/// board, which sees how far the book is; none, and the pass is as it was, if it saw more.
+/// The state of a question at the member of a book, which is one of its hub's.
 pub(crate) fn state_of<D: Disk, J: Naming>(
+    book: &Book<D, J>,
+    question: u16,
+) -> Option<QuestionState>
+    ensures { IsStateOf D J.header J.opening book.now.log question result }
+{
+    let _named = book.header();
+    let _replayed = book.records();
+    book.state(question)
+}
+
+/// The same, for a pass of the book's board, which sees how far the book is; none, and the pass is
+/// as it was, if it saw more.
+pub(crate) fn state_for<D: Disk, J: Naming>(
     book: &Book<D, J>,
     pass: &mut Pass,
     question: u16,
 ) -> Option<Option<QuestionState>>
     requires { pass.old.board ≡ J.names }
     ensures some { IfSome result
-        (λ state. SeesOn pass.old pass.new × IsStateOf D J.header pass.new.log question state) }
+        (λ state. SeesOn pass.old pass.new × IsStateOf D J.header J.opening pass.new.log question state) }
     ensures none { IfNone result (pass.new ≡ pass.old) }
 {
     if !pass.see(book) {
         return None;
     }
-    Some(book.state(question))
+    Some(state_of(book, question))
 }
