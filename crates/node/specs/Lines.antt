@@ -11,6 +11,10 @@ use Rattle.node.specs.Groups.{AppliesAll, RefusesAll}
 use Rattle.node.specs.Parts.{IsPartOf}
 use Rattle.node.specs.Views.{BookView}
 
+-- what comes of statements: the account of the book that heard them, or the fault with which they are refused
+abbrev pub OutcomeView : Type 0
+OutcomeView = Result (List Group) MemberFault
+
 -- a book heard these: its account, as far as it was seen, ends with a group of which they are a part
 pub record WasHeard (es : Group) (after : List Group) : Type 0 where
   pub base : List Group
@@ -27,12 +31,12 @@ pub record WasRefused (D : Type 0) (es : Group) (fault : MemberFault) : Type 0 w
   pub refuses : RefusesAll old group fault new
 
 -- what a book does with a group, and no more: it answers it, or refuses it
-abbrev pub ComesOf : {D : Type 0} → BookView D → Group → Result (List Group) MemberFault → BookView D → Type 0
+abbrev pub ComesOf : {D : Type 0} → BookView D → Group → OutcomeView → BookView D → Type 0
 ComesOf old group (Ok after) new = (answers : List Answer) × AppliesAll old group answers new
 ComesOf old group (Err fault) new = RefusesAll old group fault new
 
 -- what came of them: the book of that account heard them, a book refused them, or there was no memory to hand them in
-abbrev pub HasCome : (D : Type 0) → Group → Result (List Group) MemberFault → Type 0
+abbrev pub HasCome : (D : Type 0) → Group → OutcomeView → Type 0
 HasCome D es (Ok after) = 0 < length es → WasHeard es after
 HasCome D es (Err fault) = WasRefused D es fault ⊎ (fault ≡ Memory)
 

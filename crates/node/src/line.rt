@@ -3,9 +3,8 @@
 ghost use Rattle.std.specs.Prelude.{◌≡◌, IfSome, IsTrue, List, Result};
 ghost use Rattle.member.specs.Groups.{hearings};
 ghost use Rattle.member.specs.declared.fault.MemberFault.{MemberFault};
-ghost use Rattle.node.specs.Accounts.{Group};
 ghost use Rattle.node.specs.Groups.{heard_from};
-ghost use Rattle.node.specs.Lines.{ComesOf, HasCome, are_of, is_of};
+ghost use Rattle.node.specs.Lines.{ComesOf, HasCome, OutcomeView, are_of, is_of};
 
 use crate::account::Witness;
 use crate::book::{Book, Naming};
@@ -333,7 +332,7 @@ fn is_of(heard: &(u8, Statement, Toss), peer: u8, event: &(Statement, Toss)) -> 
 
 /// Has the book hear a group, and does nothing else to it.
 pub(crate) fn hear<D: Disk, J: Naming>(book: &mut Book<D, J>, group: Group) -> HeardGroup<D, J>
-    ensures { (outcome : Result (List Group) MemberFault)
+    ensures { (outcome : OutcomeView)
         × ComesOf book.old (hearings group) outcome book.new }
 {
     match book.hear_all(&group.events) {
