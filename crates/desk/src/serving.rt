@@ -187,8 +187,8 @@ impl<D: Disk, J: Naming, R: Wait + Clock> Server<'_, D, J, R> {
     fn propose<T: Tosser>(&self, pass: &mut Pass, tosser: &mut T, question: u16, bit: bool) -> Reply
         requires { pass.old.board ≡ J.names }
         ensures sees { SeesOn pass.old pass.new }
-        ensures reply { IsProposalReply D T.may_toss self.now.hub.now J.opening tosser.old question bit
-            pass.new.log result tosser.new }
+        ensures reply { IsProposalReply D T.may_toss self.now.hub.now J.opening tosser.old question
+            bit pass.new.log result tosser.new }
     {
         let _named = self.hub.header();
         self.hub.await_voice(self.rt);
@@ -208,7 +208,8 @@ impl<D: Disk, J: Naming, R: Wait + Clock> Server<'_, D, J, R> {
     fn without_decision(&self, pass: &mut Pass, begun: u64) -> Option<Reply>
         requires { pass.old.board ≡ J.names }
         ensures sees { SeesOn pass.old pass.new }
-        ensures reply { IfSome result (IsAwaitReply D self.now.hub.now J.opening pass.new.log None) }
+        ensures reply { IfSome result
+            (IsAwaitReply D self.now.hub.now J.opening pass.new.log None) }
     {
         if self.hub.status(self.rt, pass).is_none() {
             return Some(Reply::Stopped);
@@ -265,8 +266,8 @@ impl<D: Disk, J: Naming, R: Wait + Clock> Server<'_, D, J, R> {
     fn status<T: Tosser>(&self, pass: &mut Pass, tosser: &mut T) -> Reply
         requires { pass.old.board ≡ J.names }
         ensures sees { SeesOn pass.old pass.new }
-        ensures reply { IsStatusReply D T.may_toss self.now.hub.now J.opening tosser.old pass.new.log result
-            tosser.new }
+        ensures reply { IsStatusReply D T.may_toss self.now.hub.now J.opening tosser.old
+            pass.new.log result tosser.new }
     {
         let _toss = tosser.toss();
         standing_reply(self.hub.status(self.rt, pass))

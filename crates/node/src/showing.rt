@@ -132,7 +132,8 @@ impl<D: Disk, J: Naming> Published<D, J> {
     pub(crate) fn tell(&self, pass: &mut Pass) -> Option<Option<(u64, u16)>>
         requires { pass.old.board ≡ J.names }
         ensures some { IfSome result
-            (λ status. SeesOn pass.old pass.new × IsStanding D J.header J.opening pass.new.log status) }
+            (λ status. SeesOn pass.old pass.new
+            × IsStanding D J.header J.opening pass.new.log status) }
         ensures none { IfNone result (pass.new ≡ pass.old) }
     {
         if !pass.go_on(&self.at) {

@@ -59,7 +59,8 @@ pub(crate) fn state_for<D: Disk, J: Naming>(
 ) -> Option<Option<QuestionState>>
     requires { pass.old.board ≡ J.names }
     ensures some { IfSome result
-        (λ state. SeesOn pass.old pass.new × IsStateOf D J.header J.opening pass.new.log question state) }
+        (λ state. SeesOn pass.old pass.new
+        × IsStateOf D J.header J.opening pass.new.log question state) }
     ensures none { IfNone result (pass.new ≡ pass.old) }
 {
     if !pass.see(book) {
