@@ -4,6 +4,7 @@ use Rattle.std.specs.List.{flat_map}
 use Rattle.std.proofs.lemmas.Grind.{flat_map-append}
 use Rattle.std.proofs.lemmas.List.Elements.{All-append}
 use Rattle.numerals.specs.Lines.{NoEnd, line}
+use Rattle.terms_prelude.specs.Terms.{Header, Record}
 use Rattle.links.specs.Told.{Told, has_read, has_written, has_failed, has_ended, BreaksOff}
 use Rattle.desk.specs.declared.command.Command.{Command}
 use Rattle.desk.specs.declared.reply.Reply.{Reply}
@@ -18,14 +19,14 @@ use Rattle.desk.specs.Turns.{Says, FailsToSay, Leaves, Refuses, IsLeft, Serving}
 use Rattle.desk.proofs.Holding.{nothing_broke}
 
 -- the reply to the command or refusal that a line is found to be is the reply to the line
-pub answers_line : {T : Type 0} (D : Type 0) (may_toss : T → ℕ → T → Type 0) (questions count : ℕ) (before after : Sitting T) (asked : List ℕ)
-    (parsed found : Result Command Reply) (reply : Reply) → Parses count asked parsed → count ≡ questions → parsed ≡ found
-    → AnswersRequest D may_toss before found reply after → AnswersLine D may_toss questions before asked reply after
-answers_line D may_toss questions count before after asked parsed found reply (inl nothing) same is answers =
-    let refused : AnswersRequest D may_toss before (Err BadLine) reply after = subst (λ p. AnswersRequest D may_toss before p reply after) (sym is ∙ nothing.1) answers in
+pub answers_line : {T : Type 0} (D : Type 0) (may_toss : T → ℕ → T → Type 0) (header : Header) (opening : List Record) (count : ℕ) (before after : Sitting T) (asked : List ℕ)
+    (parsed found : Result Command Reply) (reply : Reply) → Parses count asked parsed → count ≡ header.size.questions → parsed ≡ found
+    → AnswersRequest D may_toss header opening before found reply after → AnswersLine D may_toss header opening before asked reply after
+answers_line D may_toss header opening count before after asked parsed found reply (inl nothing) same is answers =
+    let refused : AnswersRequest D may_toss header opening before (Err BadLine) reply after = subst (λ p. AnswersRequest D may_toss header opening before p reply after) (sym is ∙ nothing.1) answers in
     inl (nothing.0, refused.0, refused.1)
-answers_line D may_toss questions count before after asked parsed found reply (inr request) same is answers =
-    inr (request.0, request.1, subst (λ p. AnswersRequest D may_toss before p reply after) (sym is ∙ request.2 ∙ ap (λ n. command_for n request.0) same) answers)
+answers_line D may_toss header opening count before after asked parsed found reply (inr request) same is answers =
+    inr (request.0, request.1, subst (λ p. AnswersRequest D may_toss header opening before p reply after) (sym is ∙ request.2 ∙ ap (λ n. command_for n request.0) same) answers)
 
 -- what was read and written
 

@@ -6,3 +6,4 @@ mod Followed
 mod Requests
 pub mod Standing
 pub mod Dossiers
+mod Sights

@@ -1,14 +1,20 @@
 -- What a client's session reads and writes.
 use Rattle.std.specs.Prelude.{ℕ, ◌≡◌, ◌⊎◌, ◌<◌, ◌≤◌, Bool, true, Option, Some, None, Result, Ok, Err, List, [], ◌∷◌, ◌++◌, length}
 use Rattle.std.specs.List.{All, flat_map}
+use mathlib.Core.List.{IsPrefix}
 use Rattle.numerals.specs.Lines.{NoEnd, line}
 use Rattle.node.specs.declared.link_table.LinkCount.{LinkCount}
-use Rattle.node.specs.Verdicts.{known_at, KnowsMore}
+use Rattle.node.specs.Accounts.{Group}
+use Rattle.node.specs.Standings.{IsBookAt}
+use Rattle.node.specs.Transcripts.{AreFirstsOn, WereHeard}
+use Rattle.node.specs.Verdicts.{known_at, KnowsMore, PassView}
 use Rattle.node.specs.Views.{BookView}
 use Rattle.node.specs.States.{IsState}
 use Rattle.node.specs.declared.state.QuestionState.{QuestionState}
+use Rattle.node.specs.declared.transcript.Transcript.{Transcript as Text}
+use Rattle.terms_prelude.specs.Terms.{Header, Record}
 use Rattle.links.specs.Told.{Told, has_written, has_failed, has_ended, BreaksOff}
-use Rattle.member.specs.Readers.{member_header, member_is_stopped}
+use Rattle.member.specs.Readers.{member_is_stopped}
 use Rattle.desk.specs.Lines.{AsksToFollow, LineAsks, IsRequest}
 use Rattle.desk.specs.Commands.{AsksNothing, command_for}
 use Rattle.desk.specs.Answers.{IsTranscriptReply, Proposes, links_reply, state_reply, status_reply, verdict_reply}
@@ -17,82 +23,112 @@ use Rattle.desk.specs.declared.line.LineRequest.{LineRequest}
 use Rattle.desk.specs.declared.command.Command.{Command}
 use Rattle.desk.specs.declared.command.Command.TheVariants.{Propose, Ask, Await, Status, Transcript, Links, State}
 use Rattle.desk.specs.declared.reply.Reply.{Reply}
-use Rattle.desk.specs.declared.reply.Reply.TheVariants.{BadLine, Decided, Stopped, Undecided}
+use Rattle.desk.specs.declared.reply.Reply.TheVariants.{BadLine, Decided, Stopped, Transcript as TellsTranscript, Undecided}
 use Rattle.desk.specs.declared.serving.DeskEnd.{DeskEnd}
 use Rattle.desk.specs.declared.serving.DeskEnd.TheVariants as end
 
--- what a session goes on with: what its pass knows of the board, and its tosser
+-- what a session goes on with: what its pass knows of the board, the groups that the account of the hub's book had when the
+-- session saw it last, and its tosser
 pub record Sitting (T : Type 0) : Type 0 where
   pub known : List (Option Bool)
+  pub log : List Group
   pub tosser : T
 
-abbrev pub sitting : {T : Type 0} → List (Option Bool) → T → Sitting T
-sitting known tosser = record { known = known; tosser = tosser }
+abbrev pub sitting : {T : Type 0} → PassView → T → Sitting T
+sitting pass tosser = record { known = pass.known; log = pass.log; tosser = tosser }
 
--- what a book replies to a proposal that is done to it once, with the toss that was drawn for it
-pub record IsProposalReply {T : Type 0} (D : Type 0) (may_toss : T → ℕ → T → Type 0) (before : T) (question : ℕ) (bit : Bool) (reply : Reply) (after : T) : Type 0 where
+-- the session learns no verdict, and sees the account go on
+pub record LooksOn {T : Type 0} (before after : Sitting T) : Type 0 where
+  pub known : after.known ≡ before.known
+  pub later : IsPrefix before.log after.log
+
+-- what the hub's book replies to a proposal that is done to it once, with the toss that was drawn for it
+pub record IsProposalReply {T : Type 0} (D : Type 0) (may_toss : T → ℕ → T → Type 0) (header : Header) (opening : List Record) (before : T) (question : ℕ) (bit : Bool) (log : List Group) (reply : Reply) (after : T) : Type 0 where
   pub toss : ℕ
   pub drawn : may_toss before toss after
   pub old : BookView D
+  pub old_is : IsBookAt header opening log old
   pub new : BookView D
+  pub new_is : IsBookAt header opening log new
   pub proposes : Proposes old question bit toss reply new
 
--- what a book replies where it is asked how far it is; a toss is drawn for it too
-pub record IsStatusReply {T : Type 0} (D : Type 0) (may_toss : T → ℕ → T → Type 0) (before : T) (reply : Reply) (after : T) : Type 0 where
+-- what the hub's book replies where it is asked how far it is; a toss is drawn for it too
+pub record IsStatusReply {T : Type 0} (D : Type 0) (may_toss : T → ℕ → T → Type 0) (header : Header) (opening : List Record) (before : T) (log : List Group) (reply : Reply) (after : T) : Type 0 where
   pub toss : ℕ
   pub drawn : may_toss before toss after
   pub book : BookView D
+  pub book_is : IsBookAt header opening log book
   pub status : reply ≡ status_reply book
 
--- how many links are up, each way no more than there are members, where a book is asked whether its member is
-pub record IsLinksReply (D : Type 0) (reply : Reply) : Type 0 where
+-- how many links are up, each way no more than there are members, where the hub's book is asked whether its member is
+pub record IsLinksReply (D : Type 0) (header : Header) (opening : List Record) (log : List Group) (reply : Reply) : Type 0 where
   pub book : BookView D
+  pub book_is : IsBookAt header opening log book
   pub count : LinkCount
-  pub incoming : count.incoming ≤ (member_header book.member).size.n
-  pub outgoing : count.outgoing ≤ (member_header book.member).size.n
+  pub incoming : count.incoming ≤ header.size.n
+  pub outgoing : count.outgoing ≤ header.size.n
   pub links : reply ≡ links_reply book count
 
--- how a question stands at the member of a book that was asked
-pub record IsStateTold (D : Type 0) (question : ℕ) (reply : Reply) : Type 0 where
+-- how a question stands at the member of the hub's book
+pub record IsStateTold (D : Type 0) (header : Header) (opening : List Record) (log : List Group) (question : ℕ) (reply : Reply) : Type 0 where
   pub book : BookView D
+  pub book_is : IsBookAt header opening log book
   pub state : Option QuestionState
   pub state_is : IsState book question state
   pub told : reply ≡ state_reply state
 
--- the reply to who waits for a decision, by what is known then: that decision; or that there is none yet, or that the member
--- of a book that was asked is stopped
-abbrev pub IsAwaitReply : Type 0 → Option Bool → Reply → Type 0
-IsAwaitReply D (Some bit) reply = reply ≡ Decided bit
-IsAwaitReply D None reply =
-    (reply ≡ Undecided) ⊎ ((book : BookView D) × (reply ≡ Stopped) × (member_is_stopped book.member ≡ true))
+-- what the hub's book replies to who asks for a transcript
+pub record IsTranscriptTold (D : Type 0) (header : Header) (opening : List Record) (log : List Group) (question : ℕ) (reply : Reply) : Type 0 where
+  pub book : BookView D
+  pub book_is : IsBookAt header opening log book
+  pub told : IsTranscriptReply book question reply
+  -- no statement is told that wasn't heard, and of each member just its firsts on the question are
+  pub heard : (asked : ℕ) (text : Text) → reply ≡ TellsTranscript asked text → WereHeard log text.heard.items
+  pub firsts : (asked : ℕ) (text : Text) → reply ≡ TellsTranscript asked text → AreFirstsOn log question text.heard.items
 
--- the reply to a command
-abbrev pub AnswersCommand : {T : Type 0} → Type 0 → (T → ℕ → T → Type 0) → Sitting T → Command → Reply → Sitting T → Type 0
-AnswersCommand D may_toss before (Propose question bit) reply after =
-    (after.known ≡ before.known) × IsProposalReply D may_toss before.tosser question bit reply after.tosser
+-- the hub's book has a member that is stopped
+pub record IsStoppedAt (D : Type 0) (header : Header) (opening : List Record) (log : List Group) : Type 0 where
+  pub book : BookView D
+  pub book_is : IsBookAt header opening log book
+  pub stopped : member_is_stopped book.member ≡ true
+
+-- the reply to who waits for a decision, by what is known then: that decision; or that there is none yet, or that the member
+-- of the hub's book is stopped
+abbrev pub IsAwaitReply : Type 0 → Header → List Record → List Group → Option Bool → Reply → Type 0
+IsAwaitReply D header opening log (Some bit) reply = reply ≡ Decided bit
+IsAwaitReply D header opening log None reply = (reply ≡ Undecided) ⊎ ((reply ≡ Stopped) × IsStoppedAt D header opening log)
+
+-- the reply to a command, by the hub's book as far as the session sees it then
+abbrev pub AnswersCommand : {T : Type 0} → Type 0 → (T → ℕ → T → Type 0) → Header → List Record → Sitting T → Command → Reply → Sitting T → Type 0
+AnswersCommand D may_toss header opening before (Propose question bit) reply after =
+    LooksOn before after × IsProposalReply D may_toss header opening before.tosser question bit after.log reply after.tosser
 -- what was known stays known, and the reply is what is known then
-AnswersCommand D may_toss before (Ask question) reply after =
-    (after.tosser ≡ before.tosser) × KnowsMore before.known after.known × (reply ≡ verdict_reply (known_at after.known question))
-AnswersCommand D may_toss before (Await question) reply after =
-    (after.tosser ≡ before.tosser) × KnowsMore before.known after.known × IsAwaitReply D (known_at after.known question) reply
-AnswersCommand D may_toss before Status reply after =
-    (after.known ≡ before.known) × IsStatusReply D may_toss before.tosser reply after.tosser
+AnswersCommand D may_toss header opening before (Ask question) reply after =
+    (after.tosser ≡ before.tosser) × (after.log ≡ before.log) × KnowsMore before.known after.known
+    × (reply ≡ verdict_reply (known_at after.known question))
+AnswersCommand D may_toss header opening before (Await question) reply after =
+    (after.tosser ≡ before.tosser) × IsPrefix before.log after.log × KnowsMore before.known after.known
+    × IsAwaitReply D header opening after.log (known_at after.known question) reply
+AnswersCommand D may_toss header opening before Status reply after =
+    LooksOn before after × IsStatusReply D may_toss header opening before.tosser after.log reply after.tosser
 -- no toss is drawn
-AnswersCommand D may_toss before (Transcript question) reply after =
-    (after ≡ before) × (book : BookView D) × IsTranscriptReply book question reply
-AnswersCommand D may_toss before (State question) reply after = (after ≡ before) × IsStateTold D question reply
-AnswersCommand D may_toss before Links reply after = (after ≡ before) × IsLinksReply D reply
+AnswersCommand D may_toss header opening before (Transcript question) reply after =
+    (after.tosser ≡ before.tosser) × LooksOn before after × IsTranscriptTold D header opening after.log question reply
+AnswersCommand D may_toss header opening before (State question) reply after =
+    (after.tosser ≡ before.tosser) × LooksOn before after × IsStateTold D header opening after.log question reply
+AnswersCommand D may_toss header opening before Links reply after =
+    (after.tosser ≡ before.tosser) × LooksOn before after × IsLinksReply D header opening after.log reply
 
 -- the reply to a command, or the refusal where there is none
-abbrev pub AnswersRequest : {T : Type 0} → Type 0 → (T → ℕ → T → Type 0) → Sitting T → Result Command Reply → Reply → Sitting T → Type 0
-AnswersRequest D may_toss before (Ok command) reply after = AnswersCommand D may_toss before command reply after
-AnswersRequest D may_toss before (Err refusal) reply after = (reply ≡ refusal) × (after ≡ before)
+abbrev pub AnswersRequest : {T : Type 0} → Type 0 → (T → ℕ → T → Type 0) → Header → List Record → Sitting T → Result Command Reply → Reply → Sitting T → Type 0
+AnswersRequest D may_toss header opening before (Ok command) reply after = AnswersCommand D may_toss header opening before command reply after
+AnswersRequest D may_toss header opening before (Err refusal) reply after = (reply ≡ refusal) × (after ≡ before)
 
--- the reply to a line, where there are so many questions
-abbrev pub AnswersLine : {T : Type 0} → Type 0 → (T → ℕ → T → Type 0) → ℕ → Sitting T → List ℕ → Reply → Sitting T → Type 0
-AnswersLine D may_toss questions before asked reply after =
+-- the reply to a line, by the hub with that header
+abbrev pub AnswersLine : {T : Type 0} → Type 0 → (T → ℕ → T → Type 0) → Header → List Record → Sitting T → List ℕ → Reply → Sitting T → Type 0
+AnswersLine D may_toss header opening before asked reply after =
     (AsksNothing asked × (reply ≡ BadLine) × (after ≡ before))
-    ⊎ ((request : LineRequest) × LineAsks asked request × AnswersRequest D may_toss before (command_for questions request) reply after)
+    ⊎ ((request : LineRequest) × LineAsks asked request × AnswersRequest D may_toss header opening before (command_for header.size.questions request) reply after)
 
 -- a line without its byte 10
 pub record IsLine (bytes : List ℕ) : Type 0 where

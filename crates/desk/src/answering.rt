@@ -1,8 +1,10 @@
 //! The replies to commands.
 
-ghost use Rattle.std.specs.Prelude.{ℕ, ◌≡◌, Bool, IfOk, IfErr};
+ghost use Rattle.std.specs.Prelude.{ℕ, ◌≡◌, Bool, IfNone, IfOk, IfErr, IfSome};
 ghost use Rattle.member.specs.Readers.{member_disk};
+ghost use Rattle.node.specs.Standings.{IsBookAt};
 ghost use Rattle.node.specs.Transcripts.{IsDossier};
+ghost use Rattle.node.specs.Verdicts.{SeesOn};
 ghost use Rattle.desk.specs.Answers.{IsDossierReply, IsStateReply, IsTranscriptReply, MayBeShown, Proposes, WhyStopped, verdict_reply, asking_reply, links_reply, status_reply, standing_reply, state_reply, standing_links, refusal_reply};
 ghost use Rattle.desk.specs.declared.command.Command.TheVariants.{Propose, Ask, Await, Status, Transcript, Links, State};
 ghost use Rattle.desk.specs.declared.reply.Reply.TheVariants as reply;
@@ -11,7 +13,7 @@ use crate::command::Command;
 use crate::reply::Reply;
 use disk::Disk;
 use member::MemberFault;
-use node::{Book, Dossier, LinkCount, Naming, QuestionState, TranscriptFault};
+use node::{Book, Dossier, LinkCount, Naming, Pass, QuestionState, TranscriptFault};
 use questions::Answer;
 use rounds::Toss;
 use terms::Size;
@@ -44,6 +46,7 @@ pub(crate) fn propose<D: Disk, J: Naming>(
     toss: Toss,
 ) -> Reply
     ensures reply { Proposes book.old question bit toss.0 result book.new }
+    ensures log { book.new.log ≡ book.old.log }
     ensures stopped { result ≡ reply.Stopped →
         WhyStopped D.failures book.old question bit toss.0 book.new }
     ensures memory { result ≡ reply.Memory →
@@ -56,6 +59,32 @@ pub(crate) fn propose<D: Disk, J: Naming>(
         Ok(Answer::Foreign) => Reply::Taken,
         Err(fault) => refusal_reply(fault),
     }
+}
+
+/// The reply to a proposal, for a pass of the book's board, which sees how far the book is: none,
+/// and nothing changes, if it saw more.
+pub(crate) fn propose_for<D: Disk, J: Naming>(
+    book: &mut Book<D, J>,
+    pass: &mut Pass,
+    question: u16,
+    bit: bool,
+    toss: Toss,
+) -> Option<Reply>
+    requires { pass.old.board ≡ J.names }
+    ensures none { IfNone result (pass.new ≡ pass.old) }
+    ensures sees { IfSome result (λ _. SeesOn pass.old pass.new) }
+    ensures old { IfSome result (λ _. IsBookAt J.header J.opening pass.new.log book.old) }
+    ensures new { IfSome result (λ _. IsBookAt J.header J.opening pass.new.log book.new) }
+    ensures reply { IfSome result
+        (λ reply. Proposes book.old question bit toss.0 reply book.new) }
+{
+    if !pass.see(book) {
+        return None;
+    }
+    let reply = propose(book, question, bit, toss);
+    let _named = book.header();
+    let _replayed = book.records();
+    Some(reply)
 }
 
 /// The reply for a verdict.
@@ -164,6 +193,27 @@ pub(crate) fn dossier_of<D: Disk, J: Naming>(
         Err(TranscriptFault::Thin) => Err(Reply::Thin),
         Err(TranscriptFault::Memory) => Err(Reply::Memory),
     }
+}
+
+/// The same, for a pass of the book's board, which sees how far the book is: none, and nothing
+/// changes, if it saw more.
+pub(crate) fn dossier_for<D: Disk, J: Naming>(
+    book: &Book<D, J>,
+    pass: &mut Pass,
+    question: u16,
+) -> Option<Result<Dossier, Reply>>
+    requires { pass.old.board ≡ J.names }
+    ensures none { IfNone result (pass.new ≡ pass.old) }
+    ensures sees { IfSome result (λ _. SeesOn pass.old pass.new) }
+    ensures book { IfSome result (λ _. IsBookAt J.header J.opening pass.new.log book.now) }
+    ensures ok { IfSome result (λ asked. IfOk asked
+        (λ dossier. MayBeShown book.now question × IsDossier book.now question dossier)) }
+    ensures err { IfSome result (λ asked. IfErr asked (IsTranscriptReply book.now question)) }
+{
+    if !pass.see(book) {
+        return None;
+    }
+    Some(dossier_of(book, question))
 }
 
 /// Returns what was heard of a question, if it shows the decision.

@@ -1,15 +1,15 @@
 //! A client's session: begin at `serve`, last.
 
 ghost use Rattle.std.specs.Prelude.{◌≡◌, ◌↔◌, ◌∷◌, ℕ, List, [], None, IfErr, IfSome, IsTrue, MatchBool, OnOk};
-ghost use Rattle.node.specs.Verdicts.{KnowsMore, known_at};
+ghost use mathlib.Core.List.{IsPrefix};
+ghost use Rattle.node.specs.Verdicts.{KnowsMore, SeesOn, known_at};
 ghost use Rattle.links.specs.Told.{Told, has_ended, has_written};
-ghost use Rattle.node.specs.Views.{BookView};
-ghost use Rattle.desk.specs.Answers.{IsTranscriptReply, verdict_reply};
-ghost use Rattle.desk.specs.Sessions.{Sitting, sitting, AnswersCommand, AnswersLine, IsAwaitReply, IsLinksReply, IsProposalReply, IsStateTold, IsStatusReply, ServesTogether};
+ghost use Rattle.desk.specs.Answers.{verdict_reply};
+ghost use Rattle.desk.specs.Sessions.{Sitting, sitting, AnswersCommand, AnswersLine, IsAwaitReply, IsLinksReply, IsProposalReply, IsStateTold, IsStatusReply, IsTranscriptTold, ServesTogether};
 ghost use Rattle.desk.specs.Turns.{FailsToSay, IsLeft, Leaves, Loses, Refuses, Says, Serving};
 
 use crate::answering::{
-    dossier_of, propose, reply_of, standing_links, standing_reply, state_reply, verdict_reply,
+    dossier_for, propose_for, reply_of, standing_links, standing_reply, state_reply, verdict_reply,
 };
 use crate::command::{Command, parse};
 use crate::held::{LineStep, Sheet};
@@ -51,8 +51,9 @@ const AWAITED: u64 = 10;
 
 /// The board's verdict on a question. It takes no lock.
 fn known<D: Disk, J: Naming>(hub: &Hub<D, J>, pass: &mut Pass, question: u16) -> Option<bool>
-    requires { pass.old.cells ≡ J.names.cells }
-    ensures cells { pass.new.cells ≡ J.names.cells }
+    requires { pass.old.board ≡ J.names }
+    ensures board { pass.new.board ≡ J.names }
+    ensures log { pass.new.log ≡ pass.old.log }
     ensures more { KnowsMore pass.old.known pass.new.known }
     ensures known { result ≡ known_at pass.new.known question }
 {
@@ -62,8 +63,9 @@ fn known<D: Disk, J: Naming>(hub: &Hub<D, J>, pass: &mut Pass, question: u16) ->
 
 /// The reply that the board has for a question. It takes no lock.
 fn ask<D: Disk, J: Naming>(hub: &Hub<D, J>, pass: &mut Pass, question: u16) -> Reply
-    requires { pass.old.cells ≡ J.names.cells }
-    ensures cells { pass.new.cells ≡ J.names.cells }
+    requires { pass.old.board ≡ J.names }
+    ensures board { pass.new.board ≡ J.names }
+    ensures log { pass.new.log ≡ pass.old.log }
     ensures more { KnowsMore pass.old.known pass.new.known }
     ensures reply { result ≡ verdict_reply (known_at pass.new.known question) }
 {
@@ -158,39 +160,58 @@ impl<D: Disk, J: Naming, R: Wait + Clock> Server<'_, D, J, R> {
 
     /// Returns what was heard of a question, if it shows the decision. The lock is held until it is
     /// known where it stands, and not while the turn is waited for, nor while it is gone through
-    /// and written.
-    fn transcript_of(&self, question: u16) -> Reply
-        ensures { (book : BookView D) × IsTranscriptReply book question result }
+    /// and written. A book of which the pass saw more, which there never is, is passed over.
+    fn transcript_of(&self, pass: &mut Pass, question: u16) -> Reply
+        requires { pass.old.board ≡ J.names }
+        ensures sees { SeesOn pass.old pass.new }
+        ensures told { IsTranscriptTold D self.now.hub.now J.opening pass.new.log question result }
     {
+        let _named = self.hub.header();
         let mut turn = self.turn_to_transcribe();
-        let book = self.hub.read(self.rt);
-        turn.begin(self.rt);
-        let asked = dossier_of(&*book, question);
-        drop(book);
-        let reply = reply_of(asked);
-        turn.end(self.rt);
-        reply
+        for _ in self.rt.forever() {
+            let book = self.hub.read(self.rt);
+            turn.begin(self.rt);
+            let asked = dossier_for(&*book, pass, question);
+            drop(book);
+            if let Some(asked) = asked {
+                let reply = reply_of(asked);
+                turn.end(self.rt);
+                return reply;
+            }
+        }
+        unreachable!()
     }
 
     /// Proposes a bit, once the member speaks. What comes of it is shown to others before the book
-    /// is given back.
-    fn propose<T: Tosser>(&self, tosser: &mut T, question: u16, bit: bool) -> Reply
-        ensures { IsProposalReply D T.may_toss tosser.old question bit result tosser.new }
+    /// is given back. A book of which the pass saw more, which there never is, is passed over.
+    fn propose<T: Tosser>(&self, pass: &mut Pass, tosser: &mut T, question: u16, bit: bool) -> Reply
+        requires { pass.old.board ≡ J.names }
+        ensures sees { SeesOn pass.old pass.new }
+        ensures reply { IsProposalReply D T.may_toss self.now.hub.now J.opening tosser.old question
+            bit pass.new.log result tosser.new }
     {
+        let _named = self.hub.header();
         self.hub.await_voice(self.rt);
         let toss = tosser.toss();
-        let mut book = self.hub.lock(self.rt);
-        let reply = propose(&mut *book, question, bit, toss);
-        self.hub.post(self.rt, &book);
-        reply
+        for _ in self.rt.forever() {
+            let mut book = self.hub.lock(self.rt);
+            if let Some(reply) = propose_for(&mut *book, pass, question, bit, toss) {
+                self.hub.post(self.rt, &book);
+                return reply;
+            }
+        }
+        unreachable!()
     }
 
     /// The reply to who waits since that second for a decision that isn't there; none where it is
     /// to wait on.
-    fn without_decision(&self, begun: u64) -> Option<Reply>
-        ensures { IfSome result (IsAwaitReply D None) }
+    fn without_decision(&self, pass: &mut Pass, begun: u64) -> Option<Reply>
+        requires { pass.old.board ≡ J.names }
+        ensures sees { SeesOn pass.old pass.new }
+        ensures reply { IfSome result
+            (IsAwaitReply D self.now.hub.now J.opening pass.new.log None) }
     {
-        if self.hub.status(self.rt).is_none() {
+        if self.hub.status(self.rt, pass).is_none() {
             return Some(Reply::Stopped);
         }
         if self.hub.is_shut() || self.hub.seconds().wrapping_sub(begun) >= AWAITED {
@@ -210,10 +231,12 @@ impl<D: Disk, J: Naming, R: Wait + Clock> Server<'_, D, J, R> {
         stream: &mut S,
         held: &mut Block,
     ) -> (Reply, bool)
-        requires { pass.old.cells ≡ J.names.cells }
-        ensures cells { pass.new.cells ≡ J.names.cells }
+        requires { pass.old.board ≡ J.names }
+        ensures board { pass.new.board ≡ J.names }
+        ensures later { IsPrefix pass.old.log pass.new.log }
         ensures more { KnowsMore pass.old.known pass.new.known }
-        ensures reply { IsAwaitReply D (known_at pass.new.known question) result.0 }
+        ensures reply { IsAwaitReply D self.now.hub.now J.opening pass.new.log
+            (known_at pass.new.known question) result.0 }
         ensures told { MatchBool result.1
             (has_written (S.told stream.new) held.new.items
             ≡ has_written (S.told stream.old) held.old.items)
@@ -225,7 +248,7 @@ impl<D: Disk, J: Naming, R: Wait + Clock> Server<'_, D, J, R> {
             match known(self.hub, pass, question) {
                 Some(bit) => return (Reply::Decided(bit), true),
                 None => {
-                    if let Some(reply) = self.without_decision(begun) {
+                    if let Some(reply) = self.without_decision(pass, begun) {
                         return (reply, true);
                     }
                     if !tell_held(stream, held) {
@@ -240,27 +263,34 @@ impl<D: Disk, J: Naming, R: Wait + Clock> Server<'_, D, J, R> {
 
     /// Returns how far the member is, by what the hub shows of it. A toss is drawn, as for a
     /// proposal.
-    fn status<T: Tosser>(&self, tosser: &mut T) -> Reply
-        ensures { IsStatusReply D T.may_toss tosser.old result tosser.new }
+    fn status<T: Tosser>(&self, pass: &mut Pass, tosser: &mut T) -> Reply
+        requires { pass.old.board ≡ J.names }
+        ensures sees { SeesOn pass.old pass.new }
+        ensures reply { IsStatusReply D T.may_toss self.now.hub.now J.opening tosser.old
+            pass.new.log result tosser.new }
     {
         let _toss = tosser.toss();
-        standing_reply(self.hub.status(self.rt))
+        standing_reply(self.hub.status(self.rt, pass))
     }
 
     /// Says how a question stands at the member. It waits for the book.
-    fn state_of(&self, question: u16) -> Reply
-        ensures { IsStateTold D question result }
+    fn state_of(&self, pass: &mut Pass, question: u16) -> Reply
+        requires { pass.old.board ≡ J.names }
+        ensures sees { SeesOn pass.old pass.new }
+        ensures told { IsStateTold D self.now.hub.now J.opening pass.new.log question result }
     {
-        state_reply(self.hub.state(self.rt, question))
+        state_reply(self.hub.state_for(self.rt, pass, question))
     }
 
     /// Returns how many links are up, if the member is, by what the hub shows of it.
-    fn links(&self) -> Reply
-        ensures { IsLinksReply D result }
+    fn links(&self, pass: &mut Pass) -> Reply
+        requires { pass.old.board ≡ J.names }
+        ensures sees { SeesOn pass.old pass.new }
+        ensures reply { IsLinksReply D self.now.hub.now J.opening pass.new.log result }
     {
         let count = self.hub.links(self.rt);
         let size = self.hub.header().size();
-        standing_links(self.hub.status(self.rt), count, size)
+        standing_links(self.hub.status(self.rt, pass), count, size)
     }
 
     /// Writes the replies that are held, if a proposal has to wait for the member to speak.
@@ -286,11 +316,11 @@ impl<D: Disk, J: Naming, R: Wait + Clock> Server<'_, D, J, R> {
         stream: &mut S,
         held: &mut Block,
     ) -> (Reply, bool)
-        requires { pass.old.cells ≡ J.names.cells }
-        ensures cells { pass.new.cells ≡ J.names.cells }
-        ensures reply { AnswersCommand D T.may_toss
-            (sitting pass.old.known tosser.old) command result.0
-            (sitting pass.new.known tosser.new) }
+        requires { pass.old.board ≡ J.names }
+        ensures board { pass.new.board ≡ J.names }
+        ensures reply { AnswersCommand D T.may_toss self.now.hub.now J.opening
+            (sitting pass.old tosser.old) command result.0
+            (sitting pass.new tosser.new) }
         ensures told { MatchBool result.1
             (has_written (S.told stream.new) held.new.items
             ≡ has_written (S.told stream.old) held.old.items)
@@ -301,15 +331,15 @@ impl<D: Disk, J: Naming, R: Wait + Clock> Server<'_, D, J, R> {
             Command::Await { question } => self.await_decision(pass, question, stream, held),
             Command::Propose { question, bit } => {
                 let is_told = self.ready_to_propose(stream, held);
-                (self.propose(tosser, question, bit), is_told)
+                (self.propose(pass, tosser, question, bit), is_told)
             }
-            Command::Status => (self.status(tosser), true),
+            Command::Status => (self.status(pass, tosser), true),
             Command::Transcript { question } => {
                 let is_told = tell_held(stream, held);
-                (self.transcript_of(question), is_told)
+                (self.transcript_of(pass, question), is_told)
             }
-            Command::Links => (self.links(), true),
-            Command::State { question } => (self.state_of(question), true),
+            Command::Links => (self.links(pass), true),
+            Command::State { question } => (self.state_of(pass, question), true),
         }
     }
 
@@ -322,11 +352,11 @@ impl<D: Disk, J: Naming, R: Wait + Clock> Server<'_, D, J, R> {
         sheet: &mut Sheet,
         stream: &mut S,
     ) -> (Reply, bool)
-        requires { pass.old.cells ≡ J.names.cells }
-        ensures cells { pass.new.cells ≡ J.names.cells }
-        ensures reply { AnswersLine D T.may_toss self.now.hub.now.size.questions
-            (sitting pass.old.known tosser.old) sheet.old.line result.0
-            (sitting pass.new.known tosser.new) }
+        requires { pass.old.board ≡ J.names }
+        ensures board { pass.new.board ≡ J.names }
+        ensures reply { AnswersLine D T.may_toss self.now.hub.now J.opening
+            (sitting pass.old tosser.old) sheet.old.line result.0
+            (sitting pass.new tosser.new) }
         ensures told { MatchBool result.1
             (has_written (S.told stream.new) sheet.new.replies.items
             ≡ has_written (S.told stream.old) sheet.old.replies.items)
@@ -349,20 +379,20 @@ impl<D: Disk, J: Naming, R: Wait + Clock> Server<'_, D, J, R> {
         sheet: &mut Sheet,
         stream: &mut S,
     ) -> Result<(), DeskEnd>
-        requires { pass.old.cells ≡ J.names.cells }
-        ensures cells { pass.new.cells ≡ J.names.cells }
+        requires { pass.old.board ≡ J.names }
+        ensures board { pass.new.board ≡ J.names }
         ensures line { sheet.new.line ≡ [] }
         ensures ok { OnOk result
-            (Says (λ said. AnswersLine D T.may_toss self.now.hub.now.size.questions
-            (sitting pass.old.known tosser.old) sheet.old.line said
-            (sitting pass.new.known tosser.new))
+            (Says (λ said. AnswersLine D T.may_toss self.now.hub.now J.opening
+            (sitting pass.old tosser.old) sheet.old.line said
+            (sitting pass.new tosser.new))
             (has_written (S.told stream.old) sheet.old.replies.items)
             (has_written (S.told stream.new) sheet.new.replies.items)) }
         ensures err { IfErr result
             (λ why. (why ≡ DeskEnd.Lost) × FailsToSay
-            (λ said. AnswersLine D T.may_toss self.now.hub.now.size.questions
-            (sitting pass.old.known tosser.old) sheet.old.line said
-            (sitting pass.new.known tosser.new))
+            (λ said. AnswersLine D T.may_toss self.now.hub.now J.opening
+            (sitting pass.old tosser.old) sheet.old.line said
+            (sitting pass.new tosser.new))
             (has_written (S.told stream.old) sheet.old.replies.items) (S.told stream.new)) }
     {
         let (reply, is_told) = self.reply_to(pass, tosser, sheet, stream);
@@ -382,21 +412,21 @@ impl<D: Disk, J: Naming, R: Wait + Clock> Server<'_, D, J, R> {
         stream: &mut S,
         byte: u8,
     ) -> Result<(), DeskEnd>
-        requires { pass.old.cells ≡ J.names.cells }
-        ensures cells { pass.new.cells ≡ J.names.cells }
+        requires { pass.old.board ≡ J.names }
+        ensures board { pass.new.board ≡ J.names }
         ensures on { (begun : Sitting T) (old : Told) (more : List ℕ) →
-            Serving (AnswersLine D T.may_toss self.now.hub.now.size.questions) begun
-            (sitting pass.old.known tosser.old) old
+            Serving (AnswersLine D T.may_toss self.now.hub.now J.opening) begun
+            (sitting pass.old tosser.old) old
             (has_written (S.told stream.old) sheet.old.replies.items) sheet.old.line (byte ∷ more) →
-            OnOk result (Serving (AnswersLine D T.may_toss self.now.hub.now.size.questions) begun
-            (sitting pass.new.known tosser.new) old
+            OnOk result (Serving (AnswersLine D T.may_toss self.now.hub.now J.opening) begun
+            (sitting pass.new tosser.new) old
             (has_written (S.told stream.new) sheet.new.replies.items) sheet.new.line more) }
         ensures off { (begun : Sitting T) (old : Told) (more : List ℕ) →
-            Serving (AnswersLine D T.may_toss self.now.hub.now.size.questions) begun
-            (sitting pass.old.known tosser.old) old
+            Serving (AnswersLine D T.may_toss self.now.hub.now J.opening) begun
+            (sitting pass.old tosser.old) old
             (has_written (S.told stream.old) sheet.old.replies.items) sheet.old.line (byte ∷ more) →
-            IfErr result (Leaves (AnswersLine D T.may_toss self.now.hub.now.size.questions) begun
-            (sitting pass.new.known tosser.new) old (S.told stream.new) sheet.new.replies.items) }
+            IfErr result (Leaves (AnswersLine D T.may_toss self.now.hub.now J.opening) begun
+            (sitting pass.new tosser.new) old (S.told stream.new) sheet.new.replies.items) }
     {
         match sheet.line.read(byte) {
             LineStep::More => Ok(()),
@@ -422,21 +452,21 @@ impl<D: Disk, J: Naming, R: Wait + Clock> Server<'_, D, J, R> {
         stream: &mut S,
         piece: &[u8],
     ) -> Result<(), DeskEnd>
-        requires { pass.old.cells ≡ J.names.cells }
-        ensures cells { pass.new.cells ≡ J.names.cells }
+        requires { pass.old.board ≡ J.names }
+        ensures board { pass.new.board ≡ J.names }
         ensures on { (begun : Sitting T) (old : Told) →
-            Serving (AnswersLine D T.may_toss self.now.hub.now.size.questions) begun
-            (sitting pass.old.known tosser.old) old
+            Serving (AnswersLine D T.may_toss self.now.hub.now J.opening) begun
+            (sitting pass.old tosser.old) old
             (has_written (S.told stream.old) sheet.old.replies.items) sheet.old.line piece.now →
-            OnOk result (Serving (AnswersLine D T.may_toss self.now.hub.now.size.questions) begun
-            (sitting pass.new.known tosser.new) old
+            OnOk result (Serving (AnswersLine D T.may_toss self.now.hub.now J.opening) begun
+            (sitting pass.new tosser.new) old
             (has_written (S.told stream.new) sheet.new.replies.items) sheet.new.line []) }
         ensures off { (begun : Sitting T) (old : Told) →
-            Serving (AnswersLine D T.may_toss self.now.hub.now.size.questions) begun
-            (sitting pass.old.known tosser.old) old
+            Serving (AnswersLine D T.may_toss self.now.hub.now J.opening) begun
+            (sitting pass.old tosser.old) old
             (has_written (S.told stream.old) sheet.old.replies.items) sheet.old.line piece.now →
-            IfErr result (Leaves (AnswersLine D T.may_toss self.now.hub.now.size.questions) begun
-            (sitting pass.new.known tosser.new) old (S.told stream.new) sheet.new.replies.items) }
+            IfErr result (Leaves (AnswersLine D T.may_toss self.now.hub.now J.opening) begun
+            (sitting pass.new tosser.new) old (S.told stream.new) sheet.new.replies.items) }
     {
         for byte in piece {
             if let Err(end) = self.serve_byte(pass, tosser, sheet, stream, *byte) {
@@ -454,14 +484,14 @@ impl<D: Disk, J: Naming, R: Wait + Clock> Server<'_, D, J, R> {
         sheet: &mut Sheet,
         stream: &mut S,
     ) -> DeskEnd
-        requires { pass.old.cells ≡ J.names.cells }
-        ensures cells { pass.new.cells ≡ J.names.cells }
+        requires { pass.old.board ≡ J.names }
+        ensures board { pass.new.board ≡ J.names }
         ensures off { (begun : Sitting T) (old : Told) (before : Told) →
             has_written (S.told stream.old) sheet.old.replies.items ≡ has_ended before →
-            Serving (AnswersLine D T.may_toss self.now.hub.now.size.questions) begun
-            (sitting pass.old.known tosser.old) old before sheet.old.line [] →
-            Leaves (AnswersLine D T.may_toss self.now.hub.now.size.questions) begun
-            (sitting pass.new.known tosser.new) old
+            Serving (AnswersLine D T.may_toss self.now.hub.now J.opening) begun
+            (sitting pass.old tosser.old) old before sheet.old.line [] →
+            Leaves (AnswersLine D T.may_toss self.now.hub.now J.opening) begun
+            (sitting pass.new tosser.new) old
             (S.told stream.new) sheet.new.replies.items result }
     {
         if sheet.line.line().is_empty() {
@@ -481,21 +511,21 @@ impl<D: Disk, J: Naming, R: Wait + Clock> Server<'_, D, J, R> {
         sheet: &mut Sheet,
         stream: &mut S,
     ) -> Result<(), DeskEnd>
-        requires { pass.old.cells ≡ J.names.cells }
-        ensures cells { pass.new.cells ≡ J.names.cells }
+        requires { pass.old.board ≡ J.names }
+        ensures board { pass.new.board ≡ J.names }
         ensures on { (begun : Sitting T) (old : Told) →
-            Serving (AnswersLine D T.may_toss self.now.hub.now.size.questions) begun
-            (sitting pass.old.known tosser.old) old
+            Serving (AnswersLine D T.may_toss self.now.hub.now J.opening) begun
+            (sitting pass.old tosser.old) old
             (has_written (S.told stream.old) sheet.old.replies.items) sheet.old.line [] →
-            OnOk result (Serving (AnswersLine D T.may_toss self.now.hub.now.size.questions) begun
-            (sitting pass.new.known tosser.new) old
+            OnOk result (Serving (AnswersLine D T.may_toss self.now.hub.now J.opening) begun
+            (sitting pass.new tosser.new) old
             (has_written (S.told stream.new) sheet.new.replies.items) sheet.new.line []) }
         ensures off { (begun : Sitting T) (old : Told) →
-            Serving (AnswersLine D T.may_toss self.now.hub.now.size.questions) begun
-            (sitting pass.old.known tosser.old) old
+            Serving (AnswersLine D T.may_toss self.now.hub.now J.opening) begun
+            (sitting pass.old tosser.old) old
             (has_written (S.told stream.old) sheet.old.replies.items) sheet.old.line [] →
-            IfErr result (Leaves (AnswersLine D T.may_toss self.now.hub.now.size.questions) begun
-            (sitting pass.new.known tosser.new) old (S.told stream.new) sheet.new.replies.items) }
+            IfErr result (Leaves (AnswersLine D T.may_toss self.now.hub.now J.opening) begun
+            (sitting pass.new tosser.new) old (S.told stream.new) sheet.new.replies.items) }
     {
         let mut piece = [0u8; PIECE];
         if let Err(end) = write_held(stream, &mut sheet.replies) {
@@ -521,7 +551,9 @@ impl<D: Disk, J: Naming, R: Wait + Clock> Server<'_, D, J, R> {
 /// which nobody waits for a disk. `PROPOSE` and `STATUS` take a toss each. What comes of a proposal
 /// is shown before its reply is written, so a `STATUS` behind it counts it. Replies are written
 /// without memory, and no lock is held while they are. The pass is of the hub's board, and knows
-/// each decision that was written, so a decision that was told is told again.
+/// each decision that was written, so a decision that was told is told again. It has seen the
+/// account of the hub's book as far as any reply tells of that: no reply is of an older book than
+/// the one before.
 ///
 /// Transcripts are made one at a time, and after each the desk rests 15 times as long as that took,
 /// so that all of them take a sixteenth of a processor at most.
@@ -534,12 +566,12 @@ pub fn serve<D: Disk, J: Naming, S: Stream, T: Tosser, R: Wait + Clock>(
     tosser: &mut T,
     stream: &mut S,
 ) -> DeskEnd
-    requires { pass.old.cells ≡ J.names.cells }
-    ensures cells { pass.new.cells ≡ J.names.cells }
-    // Each reply is that to its line, by what the pass knows then and with the tosses of the
-    // tosser, one a command.
-    ensures serves { ServesTogether (AnswersLine D T.may_toss desk.entry.hub.now.size.questions)
-        (sitting pass.old.known tosser.old) (sitting pass.new.known tosser.new) (S.told stream.old)
+    requires { pass.old.board ≡ J.names }
+    ensures board { pass.new.board ≡ J.names }
+    // Each reply is that to its line, by what the pass knows then, by the hub's book as far as the
+    // pass has seen it then, and with the tosses of the tosser, one a command.
+    ensures serves { ServesTogether (AnswersLine D T.may_toss desk.entry.hub.now J.opening)
+        (sitting pass.old tosser.old) (sitting pass.new tosser.new) (S.told stream.old)
         (S.told stream.new) result }
 {
     let Desk { hub, turns } = desk;

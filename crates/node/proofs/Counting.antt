@@ -19,7 +19,7 @@ within_longer (s ∷ some) [] more h = absurd h
 within_longer (s ∷ some) (t ∷ all) more (inl here) = inl (here.0, within_longer some all more here.1)
 within_longer (s ∷ some) (t ∷ all) more (inr later) = inr (within_longer (s ∷ some) all more later)
 
-within_later : (some before all : List Statement) → IsWithin some all → IsWithin some (before ++ all)
+pub within_later : (some before all : List Statement) → IsWithin some all → IsWithin some (before ++ all)
 within_later [] before all h = tt
 within_later (s ∷ some) [] all h = h
 within_later (s ∷ some) (t ∷ before) all h = inr (within_later (s ∷ some) before all h)

@@ -1,6 +1,7 @@
 pub mod Fronts
 pub mod Appending
 pub mod Counting
+pub mod Hearsay
 pub mod Blocks
 pub mod Cells
 pub mod Rulings

@@ -13,6 +13,11 @@ pub record BoardName : Type 0 where
   pub cells : List ℕ
   pub account : Book
 
+-- how far somebody saw an account: which one, and the groups that it then had
+pub record SightView : Type 0 where
+  pub account : Book
+  pub log : List Group
+
 -- the words of an account: the number of its groups, and one that isn't used
 abbrev pub words_of : List Group → List Cell
 words_of log = (length log, true) ∷ (0, true) ∷ []

@@ -4,7 +4,8 @@ use Rattle.terms_prelude.specs.Terms.{Header, Record}
 use Rattle.rounds.specs.Progress.{IsProgress}
 use Rattle.member.specs.Answers.{verdict_of}
 use Rattle.member.specs.Readers.{member_header, member_saved, member_is_stopped}
-use Rattle.node.specs.Standings.{IsBookOf}
+use Rattle.node.specs.Accounts.{Group}
+use Rattle.node.specs.Standings.{IsBookAt}
 use Rattle.node.specs.Views.{BookView}
 use Rattle.node.specs.declared.state.QuestionState.{QuestionState}
 use Rattle.node.specs.declared.state.QuestionState.TheVariants.{Unproposed, Open, Spent, Decided}
@@ -27,8 +28,8 @@ pub record IsState {D : Type 0} (b : BookView D) (question : ℕ) (state : Optio
   pub undecided : question < (member_header b.member).size.questions → verdict_of (member_saved b.member) question ≡ None
       → member_is_stopped b.member ≡ false → IsOpenState (member_saved b.member) (member_header b.member).me question state
 
--- it is that at the member of some book of that hub
-pub record IsStateOf (D : Type 0) (header : Header) (question : ℕ) (state : Option QuestionState) : Type 0 where
+-- it is that at the member of that hub's book when its account has these groups
+pub record IsStateOf (D : Type 0) (header : Header) (opening : List Record) (log : List Group) (question : ℕ) (state : Option QuestionState) : Type 0 where
   pub book : BookView D
-  pub book_is : IsBookOf header book
+  pub book_is : IsBookAt header opening log book
   pub state_is : IsState book question state

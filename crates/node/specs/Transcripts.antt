@@ -1,10 +1,12 @@
 -- What a book gives of a question that is decided.
-use Rattle.std.specs.Prelude.{ℕ, ◌≡◌, ◌<◌, ◌≤◌, ◌%◌, Bool, false, List, [], Some, None, get_or}
+use Rattle.std.specs.Prelude.{ℕ, ◌≡◌, ◌<◌, ◌≤◌, ◌%◌, ◌==◌, Bool, false, List, [], ◌∷◌, Some, None, filter, get_or, if◌then◌else◌}
 use Rattle.terms_prelude.specs.Terms.{Size, Statement, pairs_on}
 use Rattle.questions.specs.Audits.{IsProof}
 use Rattle.questions.specs.Replay.{Entry, entry_statements}
 use Rattle.member.specs.Answers.{verdict_of}
 use Rattle.member.specs.Readers.{member_header, member_saved}
+use Rattle.node.specs.Accounts.{Group, IsWithin, said_by}
+use Rattle.node.specs.Firsts.{firsts_of}
 use Rattle.node.specs.Views.{BookView}
 use Rattle.node.specs.declared.transcript.Transcript.{Transcript}
 use Rattle.node.specs.declared.transcript.TranscriptFault.{TranscriptFault}
@@ -13,6 +15,24 @@ use Rattle.node.specs.declared.transcript.TranscriptFault.TheVariants.{NoSuchQue
 -- what a history has of the question: each sender and its statement, in order
 abbrev pub heard_on : ℕ → List Entry → List (ℕ × Statement)
 heard_on question history = pairs_on question (entry_statements history)
+
+-- what this member said of these, in order
+abbrev pub said_of : ℕ → List (ℕ × Statement) → List Statement
+said_of peer [] = []
+said_of peer (e ∷ es) = if e.0 == peer then e.1 ∷ said_of peer es else said_of peer es
+
+-- the statements on the question
+abbrev pub statements_on : ℕ → List Statement → List Statement
+statements_on question all = filter (λ s. s.place.question == question) all
+
+-- these were heard, each from its sender: in order, by the account
+abbrev pub WereHeard : List Group → List (ℕ × Statement) → Type 0
+WereHeard log pairs = (peer : ℕ) → IsWithin (said_of peer pairs) (said_by peer log)
+
+-- of each member they are just the firsts on the question of what the account has of it
+abbrev pub AreFirstsOn : List Group → ℕ → List (ℕ × Statement) → Type 0
+AreFirstsOn log question pairs =
+    (peer : ℕ) → said_of peer pairs ≡ statements_on question (firsts_of peer (said_by peer log))
 
 -- what was heard among the entries is on no question whose place in the table isn't marked
 abbrev pub AreMarkedIn : List Bool → List Entry → Type 0

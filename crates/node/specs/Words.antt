@@ -8,9 +8,9 @@ pub use Rattle.node.specs.Groups.{AppliesAll, LivesOnAll, heard_from, lengthened
 pub use Rattle.node.specs.Keeps.{AreDecided, IsKept, IsTied}
 pub use Rattle.node.specs.Marks.{AreMarked, FirstsView, mark_of}
 pub use Rattle.node.specs.Settled.{AreSeated, IsSeatOf, IsSeated, all_below, is_seated, is_settled, same_statements}
-pub use Rattle.node.specs.Standings.{AreDecisionsOf, IsBookOf, IsDecisionOf, IsStanding, PublishedView, status_of}
+pub use Rattle.node.specs.Standings.{AreDecisionsOf, IsBookAt, IsBookOf, IsDecisionOf, IsStanding, PublishedView, status_of}
 pub use Rattle.node.specs.Decisions.{AreDecisions, IsOrdered, OrderView, decisions_in}
 pub use Rattle.node.specs.Tallies.{AreCounted, IsTallied, TallyView, tallied}
-pub use Rattle.node.specs.Transcripts.{AreMarkedIn, DossierView, HasNoTranscript, IsDossier, IsHeardProof, IsTranscript, ShowsNothing, heard_on, questions_of}
-pub use Rattle.node.specs.Verdicts.{KnownCells, KnowsMore, known_at, ruling_at, ruling_in, ruling_of, told, told_from}
+pub use Rattle.node.specs.Transcripts.{AreFirstsOn, AreMarkedIn, DossierView, HasNoTranscript, IsDossier, IsHeardProof, IsTranscript, ShowsNothing, WereHeard, heard_on, questions_of, said_of, statements_on}
+pub use Rattle.node.specs.Verdicts.{KnownCells, KnowsMore, PassView, SeesOn, known_at, ruling_at, ruling_in, ruling_of, told, told_from}
 pub use Rattle.node.specs.Views.{BookView, EndedView, ended_of}

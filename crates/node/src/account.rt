@@ -105,6 +105,16 @@ impl EmptyAccount {
         }
     }
 
+    /// Its beginning, without a group, for whoever is to see it go on.
+    pub(crate) fn sight(&self) -> Sight
+        ensures { result ≡ record { account = self.now; log = [] } }
+    {
+        Sight {
+            groups: 0,
+            seen: self.seen.again(),
+        }
+    }
+
     /// The account of a board.
     pub(crate) fn named<J: Naming>(self) -> Account<J>
         requires { self ≡ J.names.account }
@@ -119,6 +129,55 @@ impl EmptyAccount {
                 of: PhantomData,
             },
         }
+    }
+}
+
+/// A beginning of an account that was reached, of whichever board. Contracts see which account it
+/// is, and those groups. It takes 8 bytes.
+#[derive(Drop)]
+pub(crate) struct Sight {
+    groups: u64,
+    seen: Seen<Group, u64, CountsGroups>,
+}
+
+impl Model for Sight {
+    ghost use Rattle.std.specs.Prelude.{◌≡◌, length};
+    ghost use Rattle.node.specs.Accounts.{SightView};
+
+    ghost Value = { SightView };
+
+    ghost view = { λ s. record { account = s.seen.book; log = s.seen.log } };
+
+    ghost invariant = { λ s. s.groups ≡ length s.seen.log };
+}
+
+impl Sight {
+    /// The same for one more.
+    pub(crate) fn again(&self) -> Sight
+        ensures { result ≡ self.now }
+    {
+        Sight {
+            groups: self.groups,
+            seen: self.seen.again(),
+        }
+    }
+
+    /// Goes on to what was witnessed; false, and nothing changes, if it saw more.
+    pub(crate) fn go_on<J: Naming>(&mut self, to: &Witness<J>) -> bool
+        requires { self.old.account ≡ J.names.account }
+        ensures account { self.new.account ≡ self.old.account }
+        ensures log { MatchBool result
+            ((self.new.log ≡ to.now) × IsPrefix self.old.log to.now)
+            (self.new.log ≡ self.old.log) }
+    {
+        let mut both = self.seen.again();
+        both.learn(&to.seen);
+        if to.groups < self.groups {
+            return false;
+        }
+        self.groups = to.groups;
+        self.seen = to.seen.again();
+        true
     }
 }
 

@@ -146,7 +146,7 @@ impl<D: Disk, J: Naming> Book<D, J> {
             MemberStandsFor member (member_saved member) [] }
         requires header { member_header member ≡ J.header }
         requires opening { member_saved member ≡ J.opening }
-        requires board { arc_value board ≡ J.names.cells }
+        requires board { arc_value board ≡ J.names }
         requires account { account ≡ [] }
         ensures { IfOk result (λ book. IsJustOpened member book) }
     {
@@ -416,6 +416,7 @@ impl<D: Disk, J: Naming> Book<D, J> {
         ensures disk { IfErr result
             (λ f. Spares D.Disk (IsFull self.old.member toss.0 (Proposal question bit)) f
             self.old.member self.new.member) }
+        ensures log { self.new.log ≡ self.old.log }
         ensures stays { StaysOn D.Disk self.old.member self.new.member }
     {
         if self.member.is_stopped() {
@@ -658,7 +659,7 @@ impl<D: Disk, J: Naming> Book<D, J> {
     /// decision, and a pass of the board that knows a verdict of the question knows the same one.
     /// Nothing changes.
     pub fn meet(&mut self, pass: &mut Pass, question: u16)
-        requires { pass.old.cells ≡ J.names.cells }
+        requires { pass.old.board ≡ J.names }
         ensures same { (self.new ≡ self.old) × (pass.new ≡ pass.old) }
         ensures decision { IfSome (known_at self.old.known question) (λ b.
             verdict_of (member_saved self.old.member) question ≡ Some b) }

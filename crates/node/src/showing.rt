@@ -1,10 +1,13 @@
 //! The part of its book that a hub shows to whoever doesn't take the book.
-ghost use Rattle.std.specs.Prelude.{◌≡◌, ◌+◌, ◌<◌, ◌≤◌, ◌^◌, ◌++◌, length, take, drop, true, IfOk, IfSome, IsTrue, IsFalse, vec_len};
+ghost use Rattle.std.specs.Prelude.{◌≡◌, ◌+◌, ◌<◌, ◌≤◌, ◌^◌, ◌++◌, length, take, drop, true, IfNone, IfOk, IfSome, IsTrue, IsFalse, vec_len};
 ghost use Rattle.member.specs.Readers.{member_saved};
 ghost use Rattle.member.specs.Sealed.{sealed_from};
 ghost use Rattle.node.specs.Books.{is_numbered};
 ghost use Rattle.node.specs.Standings.{AreDecisionsOf, IsBookOf, IsDecisionOf, IsStanding, status_of};
+ghost use Rattle.node.specs.Verdicts.{SeesOn};
 
+use crate::account::Witness;
+use crate::board::Pass;
 use crate::book::{Book, Naming};
 use crate::order::Decision;
 use crate::shown::Shown;
@@ -14,16 +17,16 @@ use std::alloc::Global;
 use std::marker::{Model, PhantomData};
 use terms::Memory;
 
-/// The statements of a book's outbox and the decisions that are shown, and the member's status. All
-/// are of one book, since they change under one lock. Contracts see the statements, the decisions
-/// and the status.
+/// The statements of a book's outbox and the decisions that are shown, and the member's status with
+/// the book's account when that was shown. All are of one book, since they change under one lock.
+/// Contracts see the statements, the decisions, the status and the account's groups.
 #[derive(Drop)]
 pub(crate) struct Published<D: Disk, J: Naming> {
     shown: Shown,
     decisions: Vec<Decision>,
     status: Option<(u64, u16)>,
+    at: Witness<J>,
     disk: PhantomData<D>,
-    of: PhantomData<J>,
 }
 
 impl<D: Disk, J: Naming> Model for Published<D, J> {
@@ -32,9 +35,14 @@ impl<D: Disk, J: Naming> Model for Published<D, J> {
     ghost Value = { PublishedView };
 
     ghost view = { λ p.
-        record { items = p.shown; decisions = p.decisions.items; status = p.status } };
+        record {
+          items = p.shown;
+          decisions = p.decisions.items;
+          status = p.status;
+          log = p.at;
+        } };
 
-    ghost invariant = { λ p. IsStanding D J.header p.status
+    ghost invariant = { λ p. IsStanding D J.header J.opening p.at p.status
         × AreDecisionsOf D J.header p.decisions.items };
 }
 
@@ -44,6 +52,7 @@ impl<D: Disk, J: Naming> Published<D, J> {
         ensures items { IfOk result
             (λ published. published.items ≡ sealed_from 0 (member_saved book.now.member)) }
         ensures status { IfOk result (λ published. published.status ≡ status_of book.now) }
+        ensures log { IfOk result (λ published. published.log ≡ book.now.log) }
     {
         let shown = Shown::of(alloc, book.outbox())?;
         let decisions = Vec::from_slice(alloc, decisions_of(book))?;
@@ -51,8 +60,8 @@ impl<D: Disk, J: Naming> Published<D, J> {
             shown,
             decisions,
             status: status_of(book),
+            at: book.witness(),
             disk: PhantomData,
-            of: PhantomData,
         })
     }
 
@@ -64,10 +73,21 @@ impl<D: Disk, J: Naming> Published<D, J> {
             (sealed_from 0 (member_saved book.now.member)) }
         ensures same { IsFalse result → self.new.items ≡ self.old.items }
         ensures status { self.new.status ≡ status_of book.now }
+        ensures log { self.new.log ≡ book.now.log }
     {
-        self.status = status_of(book);
+        self.show_status(book);
         self.show_decisions(book);
         self.shown.show(book.outbox())
+    }
+
+    /// Shows how far the book's member is, and its account.
+    fn show_status(&mut self, book: &Book<D, J>)
+        ensures items { self.new.items ≡ self.old.items }
+        ensures status { self.new.status ≡ status_of book.now }
+        ensures log { self.new.log ≡ book.now.log }
+    {
+        self.status = status_of(book);
+        self.at = book.witness();
     }
 
     /// Shows the decisions of the book behind those that are shown. Where there is no memory no
@@ -75,6 +95,7 @@ impl<D: Disk, J: Naming> Published<D, J> {
     fn show_decisions(&mut self, book: &Book<D, J>)
         ensures items { self.new.items ≡ self.old.items }
         ensures status { self.new.status ≡ self.old.status }
+        ensures log { self.new.log ≡ self.old.log }
     {
         let more = behind(decisions_of(book), self.decisions.len());
         if self.decisions.extend_from_slice(more).is_err() {
@@ -101,9 +122,24 @@ impl<D: Disk, J: Naming> Published<D, J> {
     /// outbox, and how many questions it had decided; none where it was stopped.
     pub(crate) fn status(&self) -> Option<(u64, u16)>
         ensures status { result ≡ self.now.status }
-        ensures standing { IsStanding D J.header result }
+        ensures standing { IsStanding D J.header J.opening self.now.log result }
     {
         self.status
+    }
+
+    /// The same, for a pass of the book's board, which sees how far the account was then; none, and
+    /// the pass is as it was, if it saw more.
+    pub(crate) fn tell(&self, pass: &mut Pass) -> Option<Option<(u64, u16)>>
+        requires { pass.old.board ≡ J.names }
+        ensures some { IfSome result
+            (λ status. SeesOn pass.old pass.new
+            × IsStanding D J.header J.opening pass.new.log status) }
+        ensures none { IfNone result (pass.new ≡ pass.old) }
+    {
+        if !pass.go_on(&self.at) {
+            return None;
+        }
+        Some(self.status())
     }
 
     /// Returns how many statements are shown.
@@ -134,6 +170,7 @@ impl<D: Disk, J: Naming> Published<D, J> {
 fn status_of<D: Disk, J: Naming>(book: &Book<D, J>) -> Option<(u64, u16)>
     ensures status { result ≡ status_of book.now }
     ensures book { IsBookOf J.header book.now }
+    ensures opening { book.now.opening ≡ J.opening }
 {
     let _named = book.header();
     let _replayed = book.records();

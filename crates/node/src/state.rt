@@ -1,7 +1,9 @@
 //! The state of a question at a member.
-ghost use Rattle.std.specs.Prelude.{◌≡◌};
+ghost use Rattle.std.specs.Prelude.{◌≡◌, IfNone, IfSome};
 ghost use Rattle.node.specs.States.{IsStateOf, state_at};
+ghost use Rattle.node.specs.Verdicts.{SeesOn};
 
+use crate::board::Pass;
 use crate::book::{Book, Naming};
 use disk::Disk;
 
@@ -41,9 +43,28 @@ pub(crate) fn state_of<D: Disk, J: Naming>(
     book: &Book<D, J>,
     question: u16,
 ) -> Option<QuestionState>
-    ensures { IsStateOf D J.header question result }
+    ensures { IsStateOf D J.header J.opening book.now.log question result }
 {
     let _named = book.header();
     let _replayed = book.records();
     book.state(question)
+}
+
+/// The same, for a pass of the book's board, which sees how far the book is; none, and the pass is
+/// as it was, if it saw more.
+pub(crate) fn state_for<D: Disk, J: Naming>(
+    book: &Book<D, J>,
+    pass: &mut Pass,
+    question: u16,
+) -> Option<Option<QuestionState>>
+    requires { pass.old.board ≡ J.names }
+    ensures some { IfSome result
+        (λ state. SeesOn pass.old pass.new
+        × IsStateOf D J.header J.opening pass.new.log question state) }
+    ensures none { IfNone result (pass.new ≡ pass.old) }
+{
+    if !pass.see(book) {
+        return None;
+    }
+    Some(state_of(book, question))
 }

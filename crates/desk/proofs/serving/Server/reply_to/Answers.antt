@@ -7,8 +7,8 @@ use Rattle.desk.proofs.serving.Server.reply_to.Goals as goal
 pub returns-in-Err-clause-reply : goal.returns-in-Err-clause-reply
 returns-in-Err-clause-reply g c =
     let count : c.size.result.questions ≡ c.args.self.now.hub.now.size.questions = search rules in
-    answers_line g.row.D.Denot g.T.Tosser.may_toss c.args.self.now.hub.now.size.questions c.size.result.questions
-    (sitting c.args.pass.now.known c.args.tosser.now) (sitting c.args.pass.now.known c.args.tosser.now)
+    answers_line g.row.D.Denot g.T.Tosser.may_toss c.args.self.now.hub.now g.J.Naming.opening c.size.result.questions
+    (sitting c.args.pass.now c.args.tosser.now) (sitting c.args.pass.now c.args.tosser.now)
     c.args.sheet.now.line c.parse.result (Err c.in-Err.refusal) c.in-Err.refusal
     (subst (λ (l : List ℕ). Parses c.size.result.questions l c.parse.result) c.line.ensures c.parse.ensures.either) count c.in-Err.is
     (refl, refl)
@@ -16,8 +16,8 @@ returns-in-Err-clause-reply g c =
 pub returns-in-Ok-clause-reply : goal.returns-in-Ok-clause-reply
 returns-in-Ok-clause-reply g c =
     let count : c.size.result.questions ≡ c.args.self.now.hub.now.size.questions = search rules in
-    answers_line g.row.D.Denot g.T.Tosser.may_toss c.args.self.now.hub.now.size.questions c.size.result.questions
-    (sitting c.args.pass.now.known c.args.tosser.now) (sitting c.reply_to_command.new.pass.known c.reply_to_command.new.tosser)
+    answers_line g.row.D.Denot g.T.Tosser.may_toss c.args.self.now.hub.now g.J.Naming.opening c.size.result.questions
+    (sitting c.args.pass.now c.args.tosser.now) (sitting c.reply_to_command.new.pass c.reply_to_command.new.tosser)
     c.args.sheet.now.line c.parse.result (Ok c.in-Ok.command) c.reply_to_command.result.0
     (subst (λ (l : List ℕ). Parses c.size.result.questions l c.parse.result) c.line.ensures c.parse.ensures.either) count c.in-Ok.is
     c.reply_to_command.ensures.reply

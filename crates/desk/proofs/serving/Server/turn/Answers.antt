@@ -9,7 +9,7 @@ use Rattle.desk.proofs.serving.Server.turn.Goals as goal
 pub returns-in-Err-clause-off : goal.returns-in-Err-clause-off
 returns-in-Err-clause-off g c = λ begun old s. inr (
   c.in-Err.ensures.err.0,
-  read_lost (AnswersLine g.row.D.Denot g.T.Tosser.may_toss c.args.self.now.hub.now.size.questions) begun (sitting c.args.pass.now.known c.args.tosser.now)
+  read_lost (AnswersLine g.row.D.Denot g.T.Tosser.may_toss c.args.self.now.hub.now g.J.Naming.opening) begun (sitting c.args.pass.now c.args.tosser.now)
       old (has_written (g.S.Stream.told c.args.stream.now) c.args.sheet.now.replies.items) (g.S.Stream.told c.write_held.new.stream) c.args.sheet.now.line c.in-Err.ensures.err.1.unsaid s c.in-Err.ensures.err.1.few
       (nothing_broke (has_written (g.S.Stream.told c.args.stream.now) c.args.sheet.now.replies.items) (has_written (g.S.Stream.told c.write_held.new.stream) c.in-Err.ensures.err.1.unsaid) c.in-Err.ensures.err.1.broke),
 )
@@ -24,7 +24,7 @@ returns-in-Ok-eq0-clause-off g c = λ begun old s.
 pub returns-in-Err-read-clause-off : goal.returns-in-Err-read-clause-off
 returns-in-Err-read-clause-off g c = λ begun old s. inr (
   refl,
-  read_lost (AnswersLine g.row.D.Denot g.T.Tosser.may_toss c.args.self.now.hub.now.size.questions) begun (sitting c.args.pass.now.known c.args.tosser.now)
+  read_lost (AnswersLine g.row.D.Denot g.T.Tosser.may_toss c.args.self.now.hub.now g.J.Naming.opening) begun (sitting c.args.pass.now c.args.tosser.now)
       old (has_written (g.S.Stream.told c.args.stream.now) c.args.sheet.now.replies.items) (g.S.Stream.told c.read.new.self) c.args.sheet.now.line [] s (omega arith)
       (all_written (g.S.Stream.told c.read.new.self) ∙ c.in-Err-read.ensures.fault ∙ ap has_failed c.in_default.ensures.ok),
 )
