@@ -2,4 +2,4 @@ use Rattle.std.proofs.Common.{◌≡◌}
 use Rattle.test_threads.proofs.at_once.asks.Given as goal
 
 abbrev pub invariant-loop : goal.invariant-loop
-invariant-loop g l = l.pass.cells ≡ l.board
+invariant-loop g l = l.pass.board ≡ l.board
