@@ -211,7 +211,7 @@ impl<D: Disk, J: Naming, R: Wait + Clock> Server<'_, D, J, R> {
         ensures reply { IfSome result
             (IsAwaitReply D self.now.hub.now J.opening pass.new.log None) }
     {
-        if self.hub.status(self.rt, pass).is_none() {
+        if self.hub.status_for(self.rt, pass).is_none() {
             return Some(Reply::Stopped);
         }
         if self.hub.is_shut() || self.hub.seconds().wrapping_sub(begun) >= AWAITED {
@@ -270,7 +270,7 @@ impl<D: Disk, J: Naming, R: Wait + Clock> Server<'_, D, J, R> {
             pass.new.log result tosser.new }
     {
         let _toss = tosser.toss();
-        standing_reply(self.hub.status(self.rt, pass))
+        standing_reply(self.hub.status_for(self.rt, pass))
     }
 
     /// Says how a question stands at the member. It waits for the book.
@@ -290,7 +290,7 @@ impl<D: Disk, J: Naming, R: Wait + Clock> Server<'_, D, J, R> {
     {
         let count = self.hub.links(self.rt);
         let size = self.hub.header().size();
-        standing_links(self.hub.status(self.rt, pass), count, size)
+        standing_links(self.hub.status_for(self.rt, pass), count, size)
     }
 
     /// Writes the replies that are held, if a proposal has to wait for the member to speak.
