@@ -201,7 +201,7 @@ impl Follower {
         ensures written { S.written stream.new ≡ S.written stream.old }
     {
         let now = hub.seconds();
-        if hub.is_shut() || hub.status(rt).is_none() {
+        if hub.is_shut() || hub.is_stopped(rt) {
             return Err(FollowEnd::Ended);
         }
         if self.looked == now {
