@@ -3,7 +3,7 @@ use Rattle.wire.specs.Texts.{frame_bytes}
 use Rattle.links.specs.Greeting.{hello_from}
 use Rattle.links.specs.Told.{has_read}
 use Rattle.links.specs.Net.{told_net}
-use Rattle.running.proofs.linking.Shared.seated.Goals as goal
+use Rattle.running.proofs.shared.Shared.seated.Goals as goal
 
 pub returns-in-Some-clause-hello : goal.returns-in-Some-clause-hello
 returns-in-Some-clause-hello g c =

@@ -1,7 +1,7 @@
 use Rattle.std.proofs.Common.{◌≡◌, refl, rules, sym}
 use Rattle.links.specs.Net.{told_net}
 use Rattle.running.proofs.Greeted.{greeted_by}
-use Rattle.running.proofs.linking.Shared.greeted.Goals as goal
+use Rattle.running.proofs.shared.Shared.greeted.Goals as goal
 
 pub returns-in-Some-clause-hello : goal.returns-in-Some-clause-hello
 returns-in-Some-clause-hello g c =
