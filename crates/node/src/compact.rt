@@ -1,6 +1,7 @@
 //! An entry of a history in fifteen bytes.
-ghost use Rattle.std.specs.Prelude.{ℕ, ◌≡◌, ◌≢◌, [], ◌∷◌};
+ghost use Rattle.std.specs.Prelude.{ℕ, ◌≡◌, ◌≢◌, List, [], ◌∷◌};
 ghost use Rattle.terms_prelude.specs.Terms.{new_place};
+ghost use Rattle.questions.specs.Replay.{Entry as Kept, link_part};
 ghost use Rattle.questions.specs.Replay.Entry.{Heard, Proposed};
 ghost use Rattle.node.specs.Compact.{packed, kind_in, value_in};
 ghost use Rattle.node.specs.Entries.{noted};
@@ -90,6 +91,15 @@ impl CompactEntry {
     {
         let [_, _, high, low, ..] = self.bytes;
         u16::from_be_bytes([high, low])
+    }
+
+    /// Reads who said the entry's statement, and nothing else of it; 0 of a proposal.
+    pub(crate) fn sender(&self) -> u8
+        ensures { (peer : ℕ) (more : List Kept) → peer ≢ result →
+            link_part peer (self.now ∷ more) ≡ link_part peer more }
+    {
+        let [_, from, ..] = self.bytes;
+        from
     }
 
     /// The entry of these bytes.
