@@ -1,11 +1,10 @@
-use Rattle.std.proofs.Common.{rules}
 use Rattle.sim.proofs.tasks.plan.Goals as goal
 
 pub returns-in-Fuse-clause-plan : goal.returns-in-Fuse-clause-plan
-returns-in-Fuse-clause-plan c = λ liars scene at. search (rules, c.for_correct.ensures.plan liars scene at)
+returns-in-Fuse-clause-plan c liars s cluster = rw c.in-Fuse.is (c.for_correct.ensures.plan liars s cluster)
 
 pub returns-in-Crash-clause-plan : goal.returns-in-Crash-clause-plan
-returns-in-Crash-clause-plan c = λ liars scene at. search (rules, c.for_correct-in-Crash.ensures.plan liars scene at)
+returns-in-Crash-clause-plan c liars s cluster = rw c.in-Crash.is (c.for_correct-in-Crash.ensures.plan liars s cluster)
 
 pub returns-in-Reset-clause-plan : goal.returns-in-Reset-clause-plan
-returns-in-Reset-clause-plan c = λ liars scene _. search (rules, c.reset.ensures.plan liars scene)
+returns-in-Reset-clause-plan c liars s cluster = rw c.in-Reset.is (c.reset.ensures.plan liars s)
