@@ -203,38 +203,18 @@ fn new_cluster<'a>(alloc: Global) -> Built<'a>
     let about = "Write the settings files of a new cluster";
     let examples =
         "Creates FOLDER if it is missing, and writes member-0.toml to member-(N-1).toml, each with a random seed and readable only by its owner, and client.toml, which contains no secret. Writes nothing if one of them exists. Member M accepts links at port FIRST + M and clients at port FIRST + 10 + M, or FIRST + 100 + M if N is above 10. Desks are at 127.0.0.1 unless you say otherwise: whoever reaches a desk can propose for its member.\n\nExamples (four members on this machine; on four hosts):\n  bracha new-cluster --n 4 --t 1 --questions 64 --cluster 7 mine\n  bracha new-cluster --n 4 --t 1 --questions 64 --cluster 7 mine 10.0.0.1,10.0.0.2,10.0.0.3,10.0.0.4";
-    let cluster = number(
-        alloc,
-        "cluster",
-        "C",
-        "Number of the cluster, different for each cluster",
-    );
-    let folder = word(
-        alloc,
-        "folder",
-        "FOLDER",
-        "Folder to write the files to; created if it is missing",
-    );
-    let hosts = last_word(
-        alloc,
-        "hosts",
-        "HOST,HOST,..",
-        "Hosts of the N members: localhost or IPv4 addresses [default: 127.0.0.1 for all]",
-    );
+    let help = "Number of the cluster, different for each cluster";
+    let cluster = number(alloc, "cluster", "C", help);
+    let help = "Folder to write the files to; created if it is missing";
+    let folder = word(alloc, "folder", "FOLDER", help);
+    let help = "Hosts of the N members: localhost or IPv4 addresses [default: 127.0.0.1 for all]";
+    let hosts = last_word(alloc, "hosts", "HOST,HOST,..", help);
     let command = with_size(alloc, named(alloc, "new-cluster", about, examples));
     let command = with_arg(command, of_u32(cluster));
-    let port = option(
-        alloc,
-        "port",
-        "FIRST",
-        "First port of the links [default: 7100]",
-    );
-    let desk = option(
-        alloc,
-        "desk",
-        "HOST",
-        "Host of all desks, or `links`: each at its links' host [default: 127.0.0.1]",
-    );
+    let help = "First port of the links [default: 7100]";
+    let port = option(alloc, "port", "FIRST", help);
+    let help = "Host of all desks, or `links`: each at its links' host [default: 127.0.0.1]";
+    let desk = option(alloc, "desk", "HOST", help);
     let command = with_arg(command, folder);
     let command = with_arg(command, hosts);
     let command = with_arg(command, of_u16(port));

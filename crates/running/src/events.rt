@@ -118,30 +118,43 @@ impl fmt::Display for LogEvent {
             }
             LogEvent::LinkDownTo(peer, end) => write!(f, "link-down to {peer} {}", cause_text(end)),
             LogEvent::Refused(refused) => write!(f, "{refused}"),
-            LogEvent::ClientClosed {
-                host: Some(host),
-                slot,
-                silent,
-            } => {
-                write!(
-                    f,
-                    "client from {host} at place {slot} closed for another: silent for {silent} s"
-                )
-            }
-            LogEvent::ClientClosed {
-                host: None,
-                slot,
-                silent,
-            } => {
-                write!(
-                    f,
-                    "client at place {slot} closed for another: silent for {silent} s"
-                )
+            LogEvent::ClientClosed { host, slot, silent } => {
+                let closed = Closed { host, slot, silent };
+                write!(f, "{closed}")
             }
             LogEvent::Decided(question, bit) => write!(f, "decided {question} {}", u8::from(bit)),
             LogEvent::Stopped => f.write_str("stopped"),
             LogEvent::Missed(count) => write!(f, "missed {count}"),
             LogEvent::End => f.write_str("end"),
+        }
+    }
+}
+
+/// A client that was closed for another.
+#[derive(Clone, Copy)]
+struct Closed {
+    host: Option<IpAddr>,
+    slot: u8,
+    silent: u64,
+}
+
+impl fmt::Display for Closed {
+    ghost use Rattle.std.specs.Prelude.{Some};
+    ghost use Rattle.running.specs.Events.{closed_text};
+
+    ghost output = { λ closed. Some (closed_text closed.host closed.slot closed.silent) };
+
+    fn fmt<W: fmt::Write>(&self, f: &mut fmt::Formatter<W>) -> fmt::Result {
+        let Closed { host, slot, silent } = *self;
+        match host {
+            Some(host) => write!(
+                f,
+                "client from {host} at place {slot} closed for another: silent for {silent} s"
+            ),
+            None => write!(
+                f,
+                "client at place {slot} closed for another: silent for {silent} s"
+            ),
         }
     }
 }

@@ -151,7 +151,7 @@ fn share<D: Disk + Drop, J: Life>(opened: Opened<D>) -> Result<Shared<D, J>, Mem
 }
 
 impl<D: Disk, J: Life> Shared<D, J> {
-    /// Has told from now on what happens, and first that the member is ready.
+    /// Begins the log: from now on it is told what happens, and first that the member is ready.
     fn begin_log<R: Machine>(&self, rt: &R) -> Result<(), Memory> {
         let book = self.hub.lock(rt);
         let telling = Telling::new(self.alloc, &book)?;

@@ -175,7 +175,7 @@ impl<D: Disk, J: Life> Shared<D, J> {
     }
 }
 
-/// What the log is told. What the member's own end does to links isn't.
+/// The log: what the member's own end does to links isn't told.
 impl<D: Disk, J: Life> Shared<D, J> {
     /// Logs an event of a link from a peer or to it, but none of the link from the member to
     /// itself.
@@ -241,7 +241,7 @@ impl<D: Disk, J: Life> Shared<D, J> {
     }
 }
 
-/// Who is let in, and who leaves.
+/// The way in, and the way out.
 impl<D: Disk, J: Life> Shared<D, J> {
     /// Returns what the next connection that is admitted has; none at the end. One that isn't
     /// admitted is closed.

@@ -161,10 +161,7 @@ impl fmt::Display for Event {
                 Some(calls) => write!(f, "fuse {member} {calls}"),
                 None => write!(f, "fuse {member} off"),
             },
-            Event::Crash { member, pick } => {
-                let left = Left(*pick);
-                write!(f, "crash {member} {left}")
-            }
+            Event::Crash { member, pick } => write!(f, "crash {member} {}", Left(*pick)),
             Event::Restart { member } => write!(f, "restart {member}"),
             Event::Reset { from, to } => write!(f, "reset {from} {to}"),
         }
