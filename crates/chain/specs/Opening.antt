@@ -27,6 +27,6 @@ IsWanted known epoch =
     (known.newest ≤ epoch) ⊎ ((is_among known.undone.now epoch ≡ true) ⊎ (is_asked known.asks.now epoch ≡ true))
 
 -- Up to the one in front of the newest an epoch is open if it is wanted; past it, if more than t members ask for it.
-pub record IsOpen (size : Size) (known : Known) (epoch : ℕ) : Type 0 where
+pub record IsOpenEpoch (size : Size) (known : Known) (epoch : ℕ) : Type 0 where
   pub near : epoch ≤ known.newest + 1 → IsWanted known epoch
   pub far : known.newest + 1 < epoch → IsAskedByEnough size known.asks.now epoch

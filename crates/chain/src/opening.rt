@@ -2,7 +2,7 @@
 
 ghost use Rattle.std.specs.Prelude.{ℕ, ◌≡◌, ◌↔◌, IfSome, IsNone, IsTrue};
 ghost use Rattle.terms_prelude.specs.Terms.{count_below};
-ghost use Rattle.chain.specs.Opening.{IsAskedByEnough, IsOpen, IsWanted, has_asked, is_among, is_asked};
+ghost use Rattle.chain.specs.Opening.{IsAskedByEnough, IsOpenEpoch, IsWanted, has_asked, is_among, is_asked};
 ghost use Rattle.chain.specs.Slots.{HasCluster, chain_size};
 
 use crate::slots::Chain;
@@ -85,7 +85,7 @@ impl Chain {
     /// aren't done or for which a member asks. Past these an epoch is open only if more than t
     /// members ask for it, of whom one doesn't lie: [`crate::laws::opened_for_proposals`].
     pub fn is_open(&self, known: &Known<'_>, epoch: u64) -> bool
-        ensures { IsTrue result ↔ IsOpen (chain_size self.now) known.now epoch }
+        ensures { IsTrue result ↔ IsOpenEpoch (chain_size self.now) known.now epoch }
     {
         if epoch.saturating_sub(known.newest) <= 1 {
             is_wanted(known, epoch)
@@ -98,9 +98,9 @@ impl Chain {
     /// goes to nobody: no open epoch has the number.
     pub fn route(&self, known: &Known<'_>, cluster: u64) -> Option<u64>
         ensures some { IfSome result (λ epoch. HasCluster self.now epoch cluster) }
-        ensures open { IfSome result (IsOpen (chain_size self.now) known.now) }
+        ensures open { IfSome result (IsOpenEpoch (chain_size self.now) known.now) }
         ensures none { IsNone result → (epoch : ℕ) → HasCluster self.now epoch cluster →
-            IsOpen (chain_size self.now) known.now epoch → ⊥ }
+            IsOpenEpoch (chain_size self.now) known.now epoch → ⊥ }
     {
         let epoch = self.epoch_of(cluster)?;
         if self.is_open(known, epoch) {

@@ -4,7 +4,7 @@ use Rattle.clap.specs.Walk.{Row, Text}
 use Rattle.clap.specs.Faults.{fault_of, is_simple_and_free}
 use Rattle.clap.specs.Simple.{App, HasMatchesOf, is_simple, matches_of, subcommand_of, subcommand_rows_of}
 use Rattle.clap.specs.declared.parser.matches.ArgMatches.{ArgMatches}
-use Rattle.command_line.specs.Tasks.{AreQuiet, AskFor, IsAskedFor, IsQuiet, rows_in}
+use Rattle.command_line.specs.Tasks.{AreQuiet, AskFor, IsAskedFor, AsksForQuiet, rows_in}
 use Rattle.command_line.proofs.Demanded.{faultless_asks}
 use Rattle.command_line.specs.Usage.{program_app}
 use Rattle.command_line.specs.declared.words.Task.{Task}
@@ -30,11 +30,11 @@ asked_by_words app words m is has task asked = subst (λ met. IsAskedFor met tas
 
 -- and so is whether they have `--quiet`
 pub quiet_by_words : (app : App) (words : List Text) (m : ArgMatches) (given : Bool) → app ≡ program_app → HasMatchesOf app words m
-    → IsQuiet (rows_in m) (subcommand_rows_of m) given → AreQuiet words given
+    → AsksForQuiet (rows_in m) (subcommand_rows_of m) given → AreQuiet words given
 quiet_by_words app words m given is has quiet =
     let rows = (has (ap is_simple is ∙ program_is_simple)).0 ∙ ap (λ (a : App). matches_of a words) is in
-    let above = subst (λ (found : List Row). IsQuiet found (subcommand_rows_of m) given) rows quiet in
-    subst (λ met. IsQuiet (matches_of program_app words) met given) (met_of_words app words m is has) above
+    let above = subst (λ (found : List Row). AsksForQuiet found (subcommand_rows_of m) given) rows quiet in
+    subst (λ met. AsksForQuiet (matches_of program_app words) met given) (met_of_words app words m is has) above
 
 -- the faults are those of the program
 pub fault_of_words : (app : App) (words : List Text) → app ≡ program_app → fault_of app words ≡ fault_of program_app words

@@ -212,12 +212,12 @@ abbrev pub SaysQuiet : Option (Text × List Row) → Type 0
 SaysQuiet met = IsSomeAnd met (λ found. one_of (codes "quiet") found.1 ≡ Some (codes "true"))
 
 -- whether `--quiet` was given before the command, in these rows, or behind it
-abbrev pub IsQuiet : List Row → Option (Text × List Row) → Bool → Type 0
-IsQuiet rows met given = IsTrue given ↔ ((one_of (codes "quiet") rows ≡ Some (codes "true")) ⊎ SaysQuiet met)
+abbrev pub AsksForQuiet : List Row → Option (Text × List Row) → Bool → Type 0
+AsksForQuiet rows met given = IsTrue given ↔ ((one_of (codes "quiet") rows ≡ Some (codes "true")) ⊎ SaysQuiet met)
 
 -- whether the words have `--quiet`
 abbrev pub AreQuiet : List Text → Bool → Type 0
-AreQuiet words given = IsQuiet (matches_of program_app words) (subcommand_of program_app words) given
+AreQuiet words given = AsksForQuiet (matches_of program_app words) (subcommand_of program_app words) given
 
 -- the kit finds no fault in the words
 abbrev pub AreFaultless : List Text → Type 0

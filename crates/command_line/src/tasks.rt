@@ -1,6 +1,6 @@
 //! The words of the command line.
 
-ghost use Rattle.command_line.specs.Tasks.{AreQuiet, AskFor, HasFlag, HasNumberOption, Hold, IsAskedFor, IsQuiet, Names, SaysQuiet, Words, command_of, name_of, rows_in, words_of};
+ghost use Rattle.command_line.specs.Tasks.{AreQuiet, AskFor, HasFlag, HasNumberOption, Hold, IsAskedFor, AsksForQuiet, Names, SaysQuiet, Words, command_of, name_of, rows_in, words_of};
 ghost use Rattle.command_line.specs.Usage.{Builds, address_rule, all_rule, needed_all_rule, as_u16, as_u32, as_u8, ask_app, json_rule, audit_app, audited_rules, decide_app, bare_app, check_app, choice_rules, dump_app, epochs_app, gateway_app, option_rule, flag_rule, last_rule, timeout_rule, hear_app, init_app, migrate_app, new_cluster_app, number_rule, program_app};
 ghost use Rattle.command_line.specs.Usage.{forever_rules, propose_app, rounds_app, run_app, simulate_app, size_rules, status_app, transcript_app, desk_rules, quiet_rule, verbose_rule, word_rule, with_rules, with_telling};
 ghost use Rattle.clap.specs.Words.{App, FailsBy, Rule, app_of, fault_of, first_of, new_app, rule_of, subcommand_rows_of, with_rule, with_subcommand};
@@ -989,7 +989,7 @@ fn is_quiet_below(matches: &ArgMatches<'_>) -> bool
 
 /// Returns `true` if `--quiet` was given, before the command or behind it.
 fn is_quiet(matches: &ArgMatches<'_>) -> bool
-    ensures { IsQuiet (rows_in matches.now) (subcommand_rows_of matches.now) result }
+    ensures { AsksForQuiet (rows_in matches.now) (subcommand_rows_of matches.now) result }
 {
     flag_of(matches, "quiet") || is_quiet_below(matches)
 }

@@ -3,7 +3,7 @@ use Rattle.std.proofs.Common.{ℕ, ◌≡◌, ◌≤◌, ◌||◌, Bool, false, 
 use Rattle.numerals.specs.Spaces.{NoSpace}
 use Rattle.numerals.proofs.Cuts.{no_cut, one_cut}
 use Rattle.commands.specs.Talks.{IsUp}
-use Rattle.commands.specs.Replies.{AreCounts, HasCounts, HasFirst, HasLinks, AreFour, IsCount, IsLinks, IsPlainReply, IsReady, IsReply, IsUnlinked, SaysFixed}
+use Rattle.commands.specs.Replies.{AreCounts, HasCounts, HasFirst, HasLinks, AreFour, IsCount, IsLinks, IsPlainReply, IsReady, IsReplyLine, IsUnlinked, SaysFixed}
 use Rattle.commands.specs.declared.replies.Links.{Links}
 use Rattle.commands.specs.Closings.{AreEpochs, HasEpochs, IsEpochs}
 use Rattle.commands.specs.declared.closing.Closing.{Closing}
@@ -117,10 +117,10 @@ is_unready reply exact = ((λ e. cc), (λ ready. absurd (never None ready.0 refl
 
 -- a line that is no reply of links, and no other
 pub no_reply_else : {A E : Type 0} (r : Result (Option A) E) (reply : List ℕ) → ((links : Links) → HasLinks reply links → None ≡ Some links)
-    → IfOk r (λ found. IsNone found → IsUnlinked reply → ⊥) → IfOk r (λ found. IsNone found → IsReply reply → ⊥)
+    → IfOk r (λ found. IsNone found → IsUnlinked reply → ⊥) → IfOk r (λ found. IsNone found → IsReplyLine reply → ⊥)
 no_reply_else (Ok found) reply exact plain = λ none is. go none is
   where
-    go : IsNone found → IsReply reply → ⊥
+    go : IsNone found → IsReplyLine reply → ⊥
     go none (inl is) = plain none is
     go none (inr is) = never None is.0 refl (exact is.0 is.1)
 no_reply_else (Err fault) reply exact plain = tt

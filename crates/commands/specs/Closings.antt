@@ -2,7 +2,7 @@
 use Rattle.std.specs.Prelude.{ℕ, zero, suc, ◌≡◌, ◌⊎◌, min, Option, Some, None, List, [], ◌∷◌, ◌++◌, codes, drop}
 use Rattle.std.specs.Fmt.{decimal}
 use Rattle.numerals.specs.Lines.{line}
-use Rattle.commands.specs.Replies.{AreCounts, IsReply}
+use Rattle.commands.specs.Replies.{AreCounts, IsReplyLine}
 use Rattle.commands.specs.Talks.{member_line}
 use Rattle.commands.specs.declared.closing.Closing.{Closing}
 use Rattle.commands.specs.declared.closing.Told.{Told}
@@ -26,7 +26,7 @@ IsEpochs reply = (epochs : Closing) × HasEpochs reply epochs
 
 -- a desk's answer to the line: the epochs, or a reply to any line
 abbrev pub IsAnswer : List ℕ → Type 0
-IsAnswer reply = IsEpochs reply ⊎ IsReply reply
+IsAnswer reply = IsEpochs reply ⊎ IsReplyLine reply
 
 -- the word that a reply is, or that none came
 abbrev pub IsTold : Option (List ℕ) → Told → Type 0

@@ -126,8 +126,8 @@ abbrev pub IsUnlinked : List ℕ → Type 0
 IsUnlinked line = IsPlainReply line ⊎ IsStage line
 
 -- the line is a reply
-abbrev pub IsReply : List ℕ → Type 0
-IsReply line = IsUnlinked line ⊎ IsLinks line
+abbrev pub IsReplyLine : List ℕ → Type 0
+IsReplyLine line = IsUnlinked line ⊎ IsLinks line
 
 -- the line of a member's number and of the object that says the same as its reply, or of no reply of a desk
 abbrev pub member_object : ℕ → List ℕ → List ℕ
@@ -136,4 +136,4 @@ member_object member object = codes "{\"member\":" ++ (decimal member ++ (codes 
 abbrev pub IsMemberObject : ℕ → List ℕ → List ℕ → Type 0
 IsMemberObject member reply text =
     ((object : List ℕ) × SaysSame reply object × (text ≡ member_object member object))
-    ⊎ ((IsReply reply → ⊥) × (text ≡ member_object member (codes "null")))
+    ⊎ ((IsReplyLine reply → ⊥) × (text ≡ member_object member (codes "null")))

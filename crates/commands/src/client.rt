@@ -5,7 +5,7 @@ ghost use Rattle.std.specs.Prelude.{ℕ, List, [], ◌≡◌, ◌∷◌, ◌++�
 ghost use Rattle.std.specs.Io.KnownBytes.{Appends, Consumes};
 ghost use Rattle.numerals.specs.Lines.{NoEnd};
 ghost use Rattle.commands.specs.Talks.{TellsDecision, decision_reply, propose_line, ask_line, await_line, state_line, links_line, status_line, member_line, member_words, IsUp, IsGood, SaysStanding, HasReadyStatus, HasStatus};
-ghost use Rattle.commands.specs.Replies.{IsMemberObject, IsReply, SaysSame, member_object};
+ghost use Rattle.commands.specs.Replies.{IsMemberObject, IsReplyLine, SaysSame, member_object};
 ghost use Rattle.commands.specs.declared.fault.TalkFault.TheVariants.{NoAnswer};
 
 use crate::fault::TalkFault;
@@ -160,7 +160,7 @@ pub fn exchange<R: Read, S: Write>(
     to: &mut S,
     from: &mut R,
 ) -> Result<Vec<u8>, TalkFault>
-    ensures { IfOk result (λ reply. NoEnd reply.items × IsReply reply.items
+    ensures { IfOk result (λ reply. NoEnd reply.items × IsReplyLine reply.items
         × Appends (S.contents to.old) (S.contents to.new) line.now
         × Consumes (R.remaining from.old) (R.remaining from.new) (reply.items ++ 10 ∷ [])) }
 {
@@ -198,7 +198,7 @@ pub fn tell_object<W: Write>(alloc: Global, reply: &[u8], output: &mut W) -> Res
     ensures all { IfOk result (λ status. (object : List ℕ) × SaysSame reply.now object
         × Appends (W.contents output.old) (W.contents output.new) (object ++ 10 ∷ [])
         × HasStatus reply.now status) }
-    ensures only { result ≡ Err NoAnswer → IsReply reply.now → ⊥ }
+    ensures only { result ≡ Err NoAnswer → IsReplyLine reply.now → ⊥ }
 {
     let Some(mut object) = object_of(alloc, reply)? else {
         return Err(TalkFault::NoAnswer);
@@ -257,7 +257,7 @@ fn same_line(
 
 /// The line of a member's number and of no reply of a desk.
 fn null_line(alloc: Global, member: u8, _reply: &[u8]) -> Result<String, AllocError>
-    requires { IsReply _reply.now → ⊥ }
+    requires { IsReplyLine _reply.now → ⊥ }
     ensures { IfOk result (λ text. IsMemberObject member _reply.now (string_bytes text)) }
 {
     object_line(alloc, member, "null")
@@ -359,7 +359,7 @@ pub fn talk<R: Read, S: Write, W: Write>(
     from: &mut R,
     output: &mut W,
 ) -> Result<u8, TalkFault>
-    ensures all { IfOk result (λ status. (reply : List ℕ) × NoEnd reply × IsReply reply
+    ensures all { IfOk result (λ status. (reply : List ℕ) × NoEnd reply × IsReplyLine reply
         × Appends (S.contents to.old) (S.contents to.new) line.now
         × Consumes (R.remaining from.old) (R.remaining from.new) (reply ++ 10 ∷ [])
         × Appends (W.contents output.old) (W.contents output.new) (reply ++ 10 ∷ [])

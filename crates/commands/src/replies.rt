@@ -1,7 +1,7 @@
 //! The replies of a desk: which lines are some, and the objects of JSON that say the same.
 
 ghost use Rattle.std.specs.Prelude.{ℕ, List, ◌≡◌, ◌≤◌, ◌↔◌, IfOk, IfSome, IsNone, IsTrue, MatchOption, Some, string_bytes};
-ghost use Rattle.commands.specs.Replies.{AreCounts, AreFour, HasCounts, HasFirst, HasLinks, IsCount, IsLinks, IsPlainReply, IsReady, IsReply, IsUnlinked, SaysDone, SaysFixed, SaysPlain, SaysSame, SaysUnlinked, SaysWhyNot, links_object, up_object};
+ghost use Rattle.commands.specs.Replies.{AreCounts, AreFour, HasCounts, HasFirst, HasLinks, IsCount, IsLinks, IsPlainReply, IsReady, IsReplyLine, IsUnlinked, SaysDone, SaysFixed, SaysPlain, SaysSame, SaysUnlinked, SaysWhyNot, links_object, up_object};
 ghost use Rattle.commands.specs.declared.replies.Links.{Links};
 
 use crate::stages::{is_stage, stage_object_of};
@@ -232,7 +232,7 @@ fn unlinked_object(alloc: Global, reply: &[u8]) -> Result<Option<String>, AllocE
 pub fn object_of(alloc: Global, reply: &[u8]) -> Result<Option<String>, AllocError>
     ensures some { IfOk result
         (λ found. IfSome found (λ text. SaysSame reply.now (string_bytes text))) }
-    ensures none { IfOk result (λ found. IsNone found → IsReply reply.now → ⊥) }
+    ensures none { IfOk result (λ found. IsNone found → IsReplyLine reply.now → ⊥) }
 {
     match links_of(reply) {
         Some(links) => Ok(Some(links_object(alloc, &links)?)),
@@ -258,7 +258,7 @@ fn is_unlinked(line: &[u8]) -> bool
 
 /// Returns `true` if the line is a reply of a desk.
 pub fn is_reply(line: &[u8]) -> bool
-    ensures { IsTrue result ↔ IsReply line.now }
+    ensures { IsTrue result ↔ IsReplyLine line.now }
 {
     is_unlinked(line) || has_links(line)
 }

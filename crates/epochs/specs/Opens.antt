@@ -1,7 +1,7 @@
 -- Which epochs run, and which are closed.
 use Rattle.std.specs.Prelude.{ℕ, ◌≡◌, ◌<◌, ◌==◌, Bool, List, [], ◌∷◌, false, length, map, min, slice_get, IfSome}
 use Rattle.std.specs.List.{list_any}
-use Rattle.chain.specs.Opening.{IsOpen}
+use Rattle.chain.specs.Opening.{IsOpenEpoch}
 use Rattle.chain.specs.Slots.{chain_size}
 use Rattle.chain.specs.declared.opening.Known.{Known}
 use Rattle.chain.specs.declared.slots.Chain.{Chain}
@@ -15,7 +15,7 @@ pub record IsKnown (state : State) (known : Known) : Type 0 where
 
 -- by the chain's rule the epoch is open, and its journal wasn't put away
 pub record MayRun (chain : Chain) (state : State) (epoch : ℕ) : Type 0 where
-  pub opens : (known : Known) → IsKnown state known → IsOpen (chain_size chain) known epoch
+  pub opens : (known : Known) → IsKnown state known → IsOpenEpoch (chain_size chain) known epoch
   pub kept : IfSome (slice_get state.verdicts.items epoch) (λ verdicts. 0 < length verdicts.cells.items)
 
 -- whether the epoch runs

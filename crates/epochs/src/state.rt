@@ -1,7 +1,7 @@
 //! The state that the switchboard guards: begin at `State`.
 
 ghost use Rattle.std.specs.Prelude.{ℕ, ◌≡◌, ◌⊎◌, ◌<◌, Bool, false, None, Some, IfSome, IsTrue, length, map, slice_get};
-ghost use Rattle.chain.specs.Opening.{IsOpen};
+ghost use Rattle.chain.specs.Opening.{IsOpenEpoch};
 ghost use Rattle.chain.specs.Slots.{chain_size};
 ghost use Rattle.chain.specs.declared.opening.Known.{Known};
 ghost use Rattle.epochs.specs.Opens.{IsDue, IsKnown, MayRun, least, first_open, runs};
@@ -514,7 +514,7 @@ impl State {
     /// Returns `true` if an epoch that runs is to end: by the rules it isn't open.
     pub(crate) fn is_over(&self, chain: &Chain, epoch: u64) -> bool
         ensures { result ≡ false → (known : Known) → IsKnown self.now known →
-            IsOpen (chain_size chain.now) known epoch }
+            IsOpenEpoch (chain_size chain.now) known epoch }
     {
         !chain.is_open(&self.known(), epoch)
     }

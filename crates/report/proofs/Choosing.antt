@@ -9,7 +9,7 @@ use Rattle.report.specs.declared.chart.choice.Choice.{Choice}
 use Rattle.report.specs.declared.chart.column.Column.{Column}
 use Rattle.report.specs.Traces.{is_skipped}
 use Rattle.report.specs.Columns.{AreNew, FollowAll}
-use Rattle.report.specs.Choices.{IsChosen, IsJudged, AreJudged, AreChosen}
+use Rattle.report.specs.Choices.{IsShownEvent, IsJudged, AreJudged, AreChosen}
 
 -- a skipped event
 pub skipped_is : (choice : Choice) (size : Size) (number : ℕ) (event : Event) (mark : Mark) (saved : List Record) (columns : List Column) → is_skipped mark ≡ true
@@ -23,7 +23,7 @@ skipped_is choice size number event mark saved columns e = record {
 
 -- another one
 pub judged_is : (choice : Choice) (size : Size) (number : ℕ) (event : Event) (mark : Mark) (saved : List Record) (old new : List Column) (is : Bool) → is_skipped mark ≡ false
-    → (IsTrue is ↔ IsChosen choice size old number event saved) → FollowAll event mark saved old new → length new ≡ length old
+    → (IsTrue is ↔ IsShownEvent choice size old number event saved) → FollowAll event mark saved old new → length new ≡ length old
     → IsJudged choice size number event mark saved old new is
 judged_is choice size number event mark saved old new is e chosen follow count = record {
   passed_over = λ skipped. let no : true ≡ false = sym skipped ∙ e in cc;

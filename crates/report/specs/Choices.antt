@@ -22,9 +22,9 @@ sender_of (Reset from to) = Some from
 sender_of event = None
 
 -- the question that a record is about
-abbrev pub question_of : Record → ℕ
-question_of (Said s) = s.place.question
-question_of (Decided question round bit) = question
+abbrev pub question_in : Record → ℕ
+question_in (Said s) = s.place.question
+question_in (Decided question round bit) = question
 
 -- a statement of that question is among these
 abbrev pub has_question : ℕ → List Statement → Bool
@@ -32,7 +32,7 @@ has_question question statements = list_any (λ s. s.place.question == question)
 
 -- something that was saved is about that question
 abbrev pub saves_on : ℕ → List Record → Bool
-saves_on question saved = list_any (λ r. question_of r == question) saved
+saves_on question saved = list_any (λ r. question_in r == question) saved
 
 -- the statement that a link at that place brings of all that its sender has said, if it brings one
 abbrev pub brought_over : List Statement → Option ℕ → Which → Option Statement
@@ -88,15 +88,15 @@ IsOnQuestion choice size columns event saved =
     IfSome choice.question (λ question. IsAbout size columns question event ⊎ IsTrue (saves_on question saved))
 
 -- the event of that number is chosen, where the members' columns are these before it
-abbrev pub IsChosen : Choice → Size → List Column → ℕ → Event → List Record → Type 0
-IsChosen choice size columns number event saved =
+abbrev pub IsShownEvent : Choice → Size → List Column → ℕ → Event → List Record → Type 0
+IsShownEvent choice size columns number event saved =
     IsWithin choice number × IsOfMember choice event × IsOnQuestion choice size columns event saved
 
 -- the event of that number, counted from 1, with the columns before and after it: one that was skipped isn't chosen and changes
 -- no column
 pub record IsJudged (choice : Choice) (size : Size) (number : ℕ) (event : Event) (outcome : Mark) (saved : List Record) (old new : List Column) (is : Bool) : Type 0 where
   pub passed_over : is_skipped outcome ≡ true → (new ≡ old) × (is ≡ false)
-  pub chosen : is_skipped outcome ≡ false → (IsTrue is ↔ IsChosen choice size old number event saved)
+  pub chosen : is_skipped outcome ≡ false → (IsTrue is ↔ IsShownEvent choice size old number event saved)
   pub follow : is_skipped outcome ≡ false → FollowAll event outcome saved old new
   pub count : length new ≡ length old
 

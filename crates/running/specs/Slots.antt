@@ -59,10 +59,10 @@ abbrev pub AreTaken : List Slot → Type 0
 AreTaken slots = position_from is_free 0 slots ≡ None
 
 -- the slot that a client is given which comes at that second
-abbrev pub Gives : ℕ → List Slot → Option GivenSlot → Type 0
-Gives now slots (Some (Free at)) = position_from is_free 0 slots ≡ Some at
-Gives now slots (Some (InPlaceOf at silent)) = AreTaken slots × GivesWay now slots at silent
-Gives now slots None = AreTaken slots × NoneGivesWay now slots
+abbrev pub GivesSlot : ℕ → List Slot → Option GivenSlot → Type 0
+GivesSlot now slots (Some (Free at)) = position_from is_free 0 slots ≡ Some at
+GivesSlot now slots (Some (InPlaceOf at silent)) = AreTaken slots × GivesWay now slots at silent
+GivesSlot now slots None = AreTaken slots × NoneGivesWay now slots
 
 -- the number of the slot that was given
 abbrev pub slot_of : GivenSlot → ℕ

@@ -2,7 +2,7 @@
 
 ghost use Rattle.std.specs.Prelude.{ℕ, ◌≡◌, ◌≢◌, ◌<◌, ◌≤◌, IfSome, IfNone};
 ghost use Rattle.std.specs.List.{position_from};
-ghost use Rattle.running.specs.Slots.{Gives, GivesWay, IsSilentLongest, NoneGivesWay, clients_let_in, has_come, has_left, is_free, is_heard, is_longer_silent, sessions_at, shut, slot_at, slot_of, unused};
+ghost use Rattle.running.specs.Slots.{GivesSlot, GivesWay, IsSilentLongest, NoneGivesWay, clients_let_in, has_come, has_left, is_free, is_heard, is_longer_silent, sessions_at, shut, slot_at, slot_of, unused};
 
 use crate::timing::SLOT_SILENCE;
 use crate::tossers::CLIENTS;
@@ -141,7 +141,7 @@ impl Slots {
     /// more than ten seconds, and which isn't being closed for another already. Else it gets none,
     /// and nothing changes.
     pub fn take(&mut self, now: u64) -> Option<GivenSlot>
-        ensures gives { Gives now self.old result }
+        ensures gives { GivesSlot now self.old result }
         ensures come { IfSome result (λ given. self.new ≡ has_come self.old (slot_of given) now) }
         ensures full { IfNone result (self.new ≡ self.old) }
     {

@@ -125,16 +125,16 @@ delivery correct network = do
   pure (act, record { deck = dealt.1; owed = network.owed })
 
 -- an event that leaves the network as it is
-abbrev pub plain : Network → Drawn Act → Drawn (Act × Network)
-plain network act = do
+abbrev pub as_it_was : Network → Drawn Act → Drawn (Act × Network)
+as_it_was network act = do
   its_act ← act
   pure (its_act, network)
 
 -- an event of a sort
 abbrev pub of_sort : Cast → ℕ → Network → Sort → Drawn (Act × Network)
 of_sort cast left network sort.Trouble = trouble cast.correct left network
-of_sort cast left network sort.Lie = plain network (lie cast)
-of_sort cast left network sort.Proposal = plain network (proposal cast)
+of_sort cast left network sort.Lie = as_it_was network (lie cast)
+of_sort cast left network sort.Proposal = as_it_was network (proposal cast)
 of_sort cast left network sort.Delivery = delivery cast.correct network
 
 -- a drawn event, where nothing is owed now

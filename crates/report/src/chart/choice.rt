@@ -3,7 +3,7 @@
 ghost use Rattle.std.specs.Prelude.{◌≡◌, ◌↔◌, ◌≤◌, ◌⊎◌, Some, IfOk, IfSome, IsSomeAnd, IsTrue};
 ghost use Rattle.terms_prelude.specs.Terms.{Statement};
 ghost use Rattle.report.specs.Charts.{member_of, IsFrameOf};
-ghost use Rattle.report.specs.Choices.{sender_of, question_of, has_question, saves_on, brought, group_of, AreChosen};
+ghost use Rattle.report.specs.Choices.{sender_of, question_in, has_question, saves_on, brought, group_of, AreChosen};
 
 use crate::chart::column::{Column, member_of};
 use crate::chart::lie::statement_in;
@@ -43,8 +43,8 @@ fn sender_of(event: &Event) -> Option<u8>
 }
 
 /// The question that a record is about.
-fn question_of(entry: &Record) -> u16
-    ensures { result ≡ question_of entry.now }
+fn question_in(entry: &Record) -> u16
+    ensures { result ≡ question_in entry.now }
 {
     match entry {
         Record::Said(statement) => statement.place().question(),
@@ -56,7 +56,7 @@ fn question_of(entry: &Record) -> u16
 fn saves_on(question: u16, saved: &[Record]) -> bool
     ensures { result ≡ saves_on question saved.now }
 {
-    saved.iter().any(|entry| question_of(entry) == question)
+    saved.iter().any(|entry| question_in(entry) == question)
 }
 
 /// Returns `true` if a statement of the question is among these.
@@ -194,7 +194,7 @@ struct Chooser {
 
 impl Chooser {
     ghost use Rattle.std.specs.Prelude.{◌≡◌, ◌⊎◌, ◌↔◌, IfOk, IfSome, IsTrue, length};
-    ghost use Rattle.report.specs.Choices.{saves_on, IsAbout, IsOnQuestion, IsChosen, IsJudged};
+    ghost use Rattle.report.specs.Choices.{saves_on, IsAbout, IsOnQuestion, IsShownEvent, IsJudged};
 
     /// Returns `true` if the event is about the question.
     fn is_about(&self, question: u16, event: &Event) -> Result<bool, AllocError>
@@ -248,7 +248,7 @@ impl Chooser {
     /// Returns `true` if the event of that number is chosen.
     fn has(&self, number: usize, event: &Event, saved: &[Record]) -> Result<bool, AllocError>
         ensures { IfOk result
-            (λ is. IsTrue is ↔ IsChosen self.now.choice self.now.size self.now.columns.items number
+            (λ is. IsTrue is ↔ IsShownEvent self.now.choice self.now.size self.now.columns.items number
             event.now saved.now) }
     {
         if !self.choice.may_have(number, event) {
