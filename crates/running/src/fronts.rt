@@ -3,6 +3,7 @@
 use crate::callers::Claim;
 use crate::doors::{Door, Listener};
 use crate::fault::RunFault;
+use crate::incoming::HELLO;
 use crate::machine::Machine;
 use crate::places::GREETINGS;
 use crate::run::{Operator, listen, local_door};
@@ -15,9 +16,6 @@ use std::os::unix::net::UnixListener;
 use std::sync::{Mutex, Wait};
 use std::thread;
 use std::time::Duration;
-
-/// The length of a Hello.
-const HELLO: usize = 18;
 
 /// The addresses at which a process that runs a chain listens.
 #[derive(Drop)]

@@ -13,7 +13,7 @@ use member::Sealed;
 use std::marker::Model;
 
 /// The length of a Hello.
-const HELLO: usize = 18;
+pub(crate) const HELLO: usize = 18;
 
 /// The first bytes that came, at most 18 of them. Contracts see these bytes.
 #[derive(Drop)]

@@ -185,7 +185,7 @@ impl Sockets {
         }
     }
 
-    /// GivesSlot the socket of that number away as it is, and frees the number.
+    /// Gives the socket of that number away as it is, and frees the number.
     pub(crate) fn take(&mut self, number: usize) -> Option<TcpStream> {
         if number >= self.open.len() {
             return None;

@@ -3,7 +3,7 @@
 
 use crate::board::News;
 use crate::callers::{Caller, Calls, Cluster, IN_ALL, Lines, deadline_within};
-use crate::calls::Manner;
+use crate::calls::{GRACE, Manner};
 use crate::fault::Fault;
 use crate::trouble::{Failure, Whereabouts};
 use client::Reading;
@@ -14,10 +14,6 @@ use settings::ClientSettings;
 use std::alloc::Global;
 use std::io::{self, Write};
 use terms::Size;
-
-/// The milliseconds for which the other members are waited for once there is a decision, so that
-/// people learn of them.
-const GRACE: u32 = 250;
 
 /// The milliseconds for which the last t members are waited for once the others answered and told
 /// no decision.

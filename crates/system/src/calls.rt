@@ -19,6 +19,10 @@ use std::sync::Arc;
 use std::thread;
 use std::time::Duration;
 
+/// The milliseconds for which the other members are waited for once there is a decision or a
+/// verdict, so that people learn of them.
+pub(crate) const GRACE: u32 = 250;
+
 /// The way in which a member is spoken to.
 #[derive(Clone, Copy, Debug, PartialEq, Eq)]
 pub enum Manner {

@@ -2,7 +2,7 @@
 
 use crate::board::News;
 use crate::callers::{Caller, Calls, Cluster, Lines};
-use crate::calls::Manner;
+use crate::calls::{GRACE, Manner};
 use crate::fault::Fault;
 use crate::trouble::Failure;
 use client::Reading;
@@ -12,9 +12,6 @@ use std::alloc::{AllocError, Global};
 use std::io::{self, Write};
 use terms::Size;
 use transcripts::audit_text;
-
-/// The milliseconds for which the other members are waited for once there is a verdict.
-const GRACE: u32 = 250;
 
 /// Asks each member for what it heard of the question.
 fn fetch_all<R: Caller>(

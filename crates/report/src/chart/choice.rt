@@ -248,8 +248,8 @@ impl Chooser {
     /// Returns `true` if the event of that number is chosen.
     fn has(&self, number: usize, event: &Event, saved: &[Record]) -> Result<bool, AllocError>
         ensures { IfOk result
-            (λ is. IsTrue is ↔ IsShownEvent self.now.choice self.now.size self.now.columns.items number
-            event.now saved.now) }
+            (λ is. IsTrue is ↔ IsShownEvent self.now.choice self.now.size self.now.columns.items
+            number event.now saved.now) }
     {
         if !self.choice.may_have(number, event) {
             return Ok(false);
