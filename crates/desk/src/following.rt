@@ -201,7 +201,7 @@ impl Follower {
         ensures written { S.written stream.new ≡ S.written stream.old }
     {
         let now = hub.seconds();
-        if hub.is_shut() || hub.is_stopped(rt) {
+        if hub.is_shut() || hub.status(rt).is_none() {
             return Err(FollowEnd::Ended);
         }
         if self.looked == now {
