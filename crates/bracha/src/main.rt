@@ -18,28 +18,37 @@ use system::{
     Caller, Failure, Fault, HeldStreams, hold_streams, number_words, own_words, wants_quiet,
 };
 
-/// The status to end with where the words ask for nothing to be done: 0 for the help and the
-/// version, 2 for a fault of the words.
-fn status_of(error: &clap::Error) -> u8
-    ensures shown { (kind_of error.now ≡ DisplayHelp) ⊎ (kind_of error.now ≡ DisplayVersion) →
-        result ≡ 0 }
-    ensures fault { kind_of error.now ≢ DisplayHelp → kind_of error.now ≢ DisplayVersion →
-        result ≡ 2 }
-{
-    error.exit_code() as u8
+fn main(rt: HostRuntime) -> io::Result<ExitCode> {
+    let _sockets = no_sockets();
+    let held = hold_streams(&rt)?;
+    end(&rt, run(&rt, &rt, &held))
 }
 
-/// Prints what a number of the words has to be, if the error is about one and the environment
-/// doesn't ask for less.
-fn print_number(host: &HostRuntime, error: &clap::Error) -> io::Result<()> {
-    if error.kind() != ErrorKind::ValueValidation || wants_quiet(host) {
-        return Ok(());
+/// No sockets. The check of a function that takes the runtime as one with sockets wants it to name
+/// their types.
+fn no_sockets() -> (Option<TcpListener>, Option<TcpStream>) {
+    (None, None)
+}
+
+/// Prints what is wrong, if anything is, and gives the code to end with: the status of what was
+/// done, or of the fault.
+fn end(rt: &HostRuntime, ended: Result<u8, Failure>) -> io::Result<ExitCode>
+    ensures { IfOk result (IsCodeOf ended) }
+{
+    match ended {
+        Ok(status) => Ok(ExitCode::from(status)),
+        Err(failure) => {
+            print_failure(rt, &failure)?;
+            Ok(ExitCode::from(failure.fault.status()))
+        }
     }
-    let Ok(said) = format!(in host.alloc(); "{error}") else {
-        return Ok(());
-    };
-    match number_words(said.as_str()) {
-        Some(words) => eprintln!(host; "{words}"),
+}
+
+/// Prints the line of a fault, and behind it the line of what can be told.
+fn print_failure(rt: &HostRuntime, failure: &Failure) -> io::Result<()> {
+    eprintln!(rt; "bracha: {}", failure.fault)?;
+    match &failure.trouble {
+        Some(trouble) => eprintln!(rt; "{trouble}"),
         None => Ok(()),
     }
 }
@@ -66,37 +75,28 @@ fn run<R: Caller>(rt: &R, host: &HostRuntime, _held: &HeldStreams) -> Result<u8,
     }
 }
 
-/// Prints the line of a fault, and behind it the line of what can be told.
-fn print_failure(rt: &HostRuntime, failure: &Failure) -> io::Result<()> {
-    eprintln!(rt; "bracha: {}", failure.fault)?;
-    match &failure.trouble {
-        Some(trouble) => eprintln!(rt; "{trouble}"),
+/// Prints what a number of the words has to be, if the error is about one and the environment
+/// doesn't ask for less.
+fn print_number(host: &HostRuntime, error: &clap::Error) -> io::Result<()> {
+    if error.kind() != ErrorKind::ValueValidation || wants_quiet(host) {
+        return Ok(());
+    }
+    let Ok(said) = format!(in host.alloc(); "{error}") else {
+        return Ok(());
+    };
+    match number_words(said.as_str()) {
+        Some(words) => eprintln!(host; "{words}"),
         None => Ok(()),
     }
 }
 
-/// Prints what is wrong, if anything is, and gives the code to end with: the status of what was
-/// done, or of the fault.
-fn end(rt: &HostRuntime, ended: Result<u8, Failure>) -> io::Result<ExitCode>
-    ensures { IfOk result (IsCodeOf ended) }
+/// The status to end with where the words ask for nothing to be done: 0 for the help and the
+/// version, 2 for a fault of the words.
+fn status_of(error: &clap::Error) -> u8
+    ensures shown { (kind_of error.now ≡ DisplayHelp) ⊎ (kind_of error.now ≡ DisplayVersion) →
+        result ≡ 0 }
+    ensures fault { kind_of error.now ≢ DisplayHelp → kind_of error.now ≢ DisplayVersion →
+        result ≡ 2 }
 {
-    match ended {
-        Ok(status) => Ok(ExitCode::from(status)),
-        Err(failure) => {
-            print_failure(rt, &failure)?;
-            Ok(ExitCode::from(failure.fault.status()))
-        }
-    }
-}
-
-/// No sockets. The check of a function that takes the runtime as one with sockets wants it to name
-/// their types.
-fn no_sockets() -> (Option<TcpListener>, Option<TcpStream>) {
-    (None, None)
-}
-
-fn main(rt: HostRuntime) -> io::Result<ExitCode> {
-    let _sockets = no_sockets();
-    let held = hold_streams(&rt)?;
-    end(&rt, run(&rt, &rt, &held))
+    error.exit_code() as u8
 }

@@ -1,4 +1,4 @@
-//! The work of each command: begin at `work`, last.
+//! The work of each command: begin at `work`.
 
 use command_line::{
     AskWords, AuditWords, DecideWords, EpochsWords, GatewayWords, HearWords, NewClusterWords,
@@ -13,14 +13,32 @@ use system::{
     run_gateway, size_of, state_at, status_at, status_of_all, transcript_at, transcript_of_all,
 };
 
-/// Returns the cluster of these settings, which is waited for as long as the words say.
-fn cluster_of<'a>(
+/// Does the task, and gives the status to end with.
+pub(crate) fn work<R: Caller>(
+    rt: &R,
     host: &HostRuntime,
-    file: &'a str,
-    timeout: Option<&str>,
-) -> Result<Cluster<'a>, Failure> {
-    let timeout = patience_of(host.alloc(), timeout)?;
-    Ok(Cluster { file, timeout })
+    task: Task<'_>,
+    quiet: bool,
+) -> Result<u8, Failure> {
+    match task {
+        Task::NewCluster(words) => make_cluster(host, words),
+        Task::Init(words) => init_file::<Brand>(host, words.settings),
+        Task::Check(words) => check_file(host, words.settings, words.json),
+        Task::Run(words) => run(rt, host, words),
+        Task::Propose(words) => propose(rt, host, words),
+        Task::Ask(words) => ask(rt, host, words),
+        Task::Decide(words) => decide(rt, host, words),
+        Task::Status(words) => status(rt, host, words),
+        Task::Transcript(words) => transcript(rt, host, words),
+        Task::Audit(words) => audit(rt, host, words),
+        Task::Gateway(words) => gateway(rt, host, words),
+        Task::Epochs(words) => epochs(rt, host, words),
+        Task::Dump(words) => dump_file::<Brand>(host, words.journal, words.count, words.json),
+        Task::Migrate(words) => migrate_file::<Brand, Brand>(host, words.old, words.new),
+        Task::Simulate(words) => simulate(host, words, quiet),
+        Task::Rounds(words) => rounds(host, words, quiet),
+        Task::Hear(words) => hear(host, words),
+    }
 }
 
 /// Writes the files of a new cluster.
@@ -35,6 +53,12 @@ fn make_cluster(host: &HostRuntime, words: NewClusterWords<'_>) -> Result<u8, Fa
         epochs: words.epochs,
     };
     new_cluster(host, &made)
+}
+
+/// Tells which epochs all members of a chain have closed.
+fn epochs<R: Caller>(rt: &R, host: &HostRuntime, words: EpochsWords<'_>) -> Result<u8, Failure> {
+    let cluster = cluster_of(host, words.file, words.timeout)?;
+    epochs_of_all(rt, host, &cluster, words.json)
 }
 
 /// Runs a member.
@@ -151,6 +175,16 @@ fn audit<R: Caller>(rt: &R, host: &HostRuntime, words: AuditWords<'_>) -> Result
     }
 }
 
+/// Returns the cluster of these settings, which is waited for as long as the words say.
+fn cluster_of<'a>(
+    host: &HostRuntime,
+    file: &'a str,
+    timeout: Option<&str>,
+) -> Result<Cluster<'a>, Failure> {
+    let timeout = patience_of(host.alloc(), timeout)?;
+    Ok(Cluster { file, timeout })
+}
+
 /// Serves a cluster over HTTP.
 fn gateway<R: Caller>(rt: &R, host: &HostRuntime, words: GatewayWords<'_>) -> Result<u8, Failure> {
     let gate = Gate {
@@ -159,12 +193,6 @@ fn gateway<R: Caller>(rt: &R, host: &HostRuntime, words: GatewayWords<'_>) -> Re
         token: words.token,
     };
     run_gateway(rt, host, &gate)
-}
-
-/// Tells which epochs all members of a chain have closed.
-fn epochs<R: Caller>(rt: &R, host: &HostRuntime, words: EpochsWords<'_>) -> Result<u8, Failure> {
-    let cluster = cluster_of(host, words.file, words.timeout)?;
-    epochs_of_all(rt, host, &cluster, words.json)
 }
 
 /// Runs a script, or random ones.
@@ -206,32 +234,4 @@ fn hear(host: &HostRuntime, words: HearWords) -> Result<u8, Failure> {
     let size = size_of(host.alloc(), words.n, words.t, words.questions)?;
     let ended = hear_input(host, size, words.me);
     hear_end(host.alloc(), size.n(), words.me, ended)
-}
-
-/// Does the task, and gives the status to end with.
-pub(crate) fn work<R: Caller>(
-    rt: &R,
-    host: &HostRuntime,
-    task: Task<'_>,
-    quiet: bool,
-) -> Result<u8, Failure> {
-    match task {
-        Task::NewCluster(words) => make_cluster(host, words),
-        Task::Init(words) => init_file::<Brand>(host, words.settings),
-        Task::Check(words) => check_file(host, words.settings, words.json),
-        Task::Run(words) => run(rt, host, words),
-        Task::Propose(words) => propose(rt, host, words),
-        Task::Ask(words) => ask(rt, host, words),
-        Task::Decide(words) => decide(rt, host, words),
-        Task::Status(words) => status(rt, host, words),
-        Task::Transcript(words) => transcript(rt, host, words),
-        Task::Audit(words) => audit(rt, host, words),
-        Task::Gateway(words) => gateway(rt, host, words),
-        Task::Epochs(words) => epochs(rt, host, words),
-        Task::Dump(words) => dump_file::<Brand>(host, words.journal, words.count, words.json),
-        Task::Migrate(words) => migrate_file::<Brand, Brand>(host, words.old, words.new),
-        Task::Simulate(words) => simulate(host, words, quiet),
-        Task::Rounds(words) => rounds(host, words, quiet),
-        Task::Hear(words) => hear(host, words),
-    }
 }

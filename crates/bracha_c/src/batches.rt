@@ -57,18 +57,6 @@ pub extern "C" fn bracha_batch_encode(
     }
 }
 
-/// Writes the bytes to the front of `out`, if there is room, and how many they are to `*written`.
-fn deliver(bytes: &[u8], out: &mut [u8], written: &mut usize) -> i32
-    ensures { Delivers bytes.now result written.new out.old out.new }
-{
-    *written = bytes.len();
-    if bytes.len() > out.len() {
-        return -9;
-    }
-    put(bytes, out);
-    0
-}
-
 /// Writes the records of a journal's file, seven bytes each, how many bytes they have to
 /// `*written`, and to `*end` the place of the closed gate.
 #[unsafe(no_mangle)]
@@ -106,4 +94,16 @@ pub extern "C" fn bracha_batch_read(
             status_of_journal(fault)
         }
     }
+}
+
+/// Writes the bytes to the front of `out`, if there is room, and how many they are to `*written`.
+fn deliver(bytes: &[u8], out: &mut [u8], written: &mut usize) -> i32
+    ensures { Delivers bytes.now result written.new out.old out.new }
+{
+    *written = bytes.len();
+    if bytes.len() > out.len() {
+        return -9;
+    }
+    put(bytes, out);
+    0
 }

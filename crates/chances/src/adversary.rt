@@ -10,79 +10,55 @@ use crate::table::Table;
 use std::alloc::{AllocError, Global};
 use terms::{Kind, MOST_MEMBERS, Size, Statement, Value};
 
-/// A step in the adversary's hands.
-#[derive(Drop)]
-struct Stage<'a> {
-    step: Step,
-    /// The values of its Initials, by member.
-    values: &'a [Option<Value>],
-    /// `true` if each link keeps its order.
-    in_order: bool,
-    ghost few: { length values.now ≤ 64 },
-}
-
-/// The part of a link's queue up to a statement.
-#[derive(Clone, Copy, Debug, PartialEq, Eq, PartialOrd, Ord)]
-struct Way {
-    /// The place of the statement in the queue.
-    place: usize,
-    /// The sender.
-    from: u8,
-}
-
-impl Stage<'_> {
-    /// Returns the statement of this kind on the origin's broadcast of the step.
-    fn statement(&self, kind: Kind, origin: u8) -> Option<Statement> {
-        match self.values.get(usize::from(origin)) {
-            Some(Some(value)) => self.step.statement(kind, origin, *value),
-            _ => None,
+/// Delivers as the adversary does, until each correct member has decided, or all steps are played.
+pub fn deliver_chosen(table: &mut Table, alloc: Global, in_order: bool) -> Result<(), PlayFault> {
+    for step in 0..STEPS {
+        play_step(table, alloc, Step(step), in_order)?;
+        drain_before(table, Step(step + 1))?;
+        if table.is_decided() {
+            return Ok(());
         }
-    }
-}
-
-/// Returns the number of members whose statement of this kind makes the next one due.
-fn enough(size: Size, kind: Kind) -> u8 {
-    match kind {
-        Kind::Initial => 1,
-        Kind::Echo => size.echo_quorum(),
-        Kind::Ready => size.accept(),
-    }
-}
-
-/// Delivers the statement from this sender: alone, or all of the queue up to it.
-fn deliver_to(table: &mut Table, way: Way, to: u8, in_order: bool) -> Result<(), PlayFault> {
-    if !in_order {
-        table.deliver(way.from, to, way.place)?;
-        return Ok(());
-    }
-    for _ in 0..=way.place {
-        table.deliver(way.from, to, 0)?;
     }
     Ok(())
 }
 
-/// Returns the ways of the statement to the receiver, the shortest first.
-fn ways(
-    table: &Table,
+/// Plays a step.
+fn play_step(
+    table: &mut Table,
     alloc: Global,
-    statement: &Statement,
-    to: u8,
-) -> Result<Vec<Way>, AllocError> {
-    let mut ways = Vec::new(alloc);
-    for from in 0..table.correct() {
-        let queue = table.links().queue(from, to);
-        if let Some(place) = queue.iter().position(|said| said == statement) {
-            ways.push(Way { place, from })?;
+    step: Step,
+    in_order: bool,
+) -> Result<(), PlayFault> {
+    let mut values = table.values(alloc, step)?;
+    values.truncate(usize::from(MOST_MEMBERS));
+    let stage = Stage {
+        step,
+        values: &values,
+        in_order,
+    };
+    for kind in [Kind::Initial, Kind::Echo, Kind::Ready] {
+        for to in 0..table.correct() {
+            bring_all(table, alloc, &stage, kind, to)?;
         }
     }
-    ways.sort_unstable();
-    Ok(ways)
+    Ok(())
 }
 
-/// Lets each liar tell the receiver the statement.
-fn tell(table: &mut Table, statement: &Statement, to: u8) -> Result<(), PlayFault> {
-    for liar in table.correct()..table.size().n() {
-        table.lie(liar, to, statement)?;
+/// Brings the statements of this kind to the receiver, in the order of its broadcasts.
+fn bring_all(
+    table: &mut Table,
+    alloc: Global,
+    stage: &Stage<'_>,
+    kind: Kind,
+    to: u8,
+) -> Result<(), PlayFault> {
+    let order = strategy::order(alloc, table.size(), stage.step.step(), stage.values, to)?;
+    for origin in &order {
+        match stage.statement(kind, *origin) {
+            Some(_) if kind == Kind::Initial => bring_initial(table, alloc, stage, *origin, to)?,
+            Some(statement) => bring(table, alloc, stage, &statement, to)?,
+            None => {}
+        }
     }
     Ok(())
 }
@@ -132,30 +108,102 @@ fn bring(
     Ok(())
 }
 
-/// Brings the statements of this kind to the receiver, in the order of its broadcasts.
-fn bring_all(
-    table: &mut Table,
+/// A step in the adversary's hands.
+#[derive(Drop)]
+struct Stage<'a> {
+    step: Step,
+    /// The values of its Initials, by member.
+    values: &'a [Option<Value>],
+    /// `true` if each link keeps its order.
+    in_order: bool,
+    ghost few: { length values.now ≤ 64 },
+}
+
+impl Stage<'_> {
+    /// Returns the statement of this kind on the origin's broadcast of the step.
+    fn statement(&self, kind: Kind, origin: u8) -> Option<Statement> {
+        match self.values.get(usize::from(origin)) {
+            Some(Some(value)) => self.step.statement(kind, origin, *value),
+            _ => None,
+        }
+    }
+}
+
+/// Returns the ways of the statement to the receiver, the shortest first.
+fn ways(
+    table: &Table,
     alloc: Global,
-    stage: &Stage<'_>,
-    kind: Kind,
+    statement: &Statement,
     to: u8,
-) -> Result<(), PlayFault> {
-    let order = strategy::order(alloc, table.size(), stage.step.step(), stage.values, to)?;
-    for origin in &order {
-        match stage.statement(kind, *origin) {
-            Some(_) if kind == Kind::Initial => bring_initial(table, alloc, stage, *origin, to)?,
-            Some(statement) => bring(table, alloc, stage, &statement, to)?,
-            None => {}
+) -> Result<Vec<Way>, AllocError> {
+    let mut ways = Vec::new(alloc);
+    for from in 0..table.correct() {
+        let queue = table.links().queue(from, to);
+        if let Some(place) = queue.iter().position(|said| said == statement) {
+            ways.push(Way { place, from })?;
+        }
+    }
+    ways.sort_unstable();
+    Ok(ways)
+}
+
+/// Lets each liar tell the receiver the statement.
+fn tell(table: &mut Table, statement: &Statement, to: u8) -> Result<(), PlayFault> {
+    for liar in table.correct()..table.size().n() {
+        table.lie(liar, to, statement)?;
+    }
+    Ok(())
+}
+
+/// Returns the number of members whose statement of this kind makes the next one due.
+fn enough(size: Size, kind: Kind) -> u8 {
+    match kind {
+        Kind::Initial => 1,
+        Kind::Echo => size.echo_quorum(),
+        Kind::Ready => size.accept(),
+    }
+}
+
+/// Delivers the statement from this sender: alone, or all of the queue up to it.
+fn deliver_to(table: &mut Table, way: Way, to: u8, in_order: bool) -> Result<(), PlayFault> {
+    if !in_order {
+        table.deliver(way.from, to, way.place)?;
+        return Ok(());
+    }
+    for _ in 0..=way.place {
+        table.deliver(way.from, to, 0)?;
+    }
+    Ok(())
+}
+
+/// The part of a link's queue up to a statement.
+#[derive(Clone, Copy, Debug, PartialEq, Eq, PartialOrd, Ord)]
+struct Way {
+    /// The place of the statement in the queue.
+    place: usize,
+    /// The sender.
+    from: u8,
+}
+
+/// Delivers all that is on the links before the Initials of the step.
+fn drain_before(table: &mut Table, step: Step) -> Result<(), PlayFault> {
+    for _ in 0..u64::MAX {
+        if !drain_all(table, step)? {
+            return Ok(());
         }
     }
     Ok(())
 }
 
-/// Returns `true` if the statement is an Initial of this step or a later one.
-fn is_ahead(statement: &Statement, step: Step) -> bool {
-    let place = statement.place();
-    let at = 3 * (usize::from(place.round()) - 1) + usize::from(place.step()) - 1;
-    statement.kind() == Kind::Initial && at >= step.0
+/// Delivers once around what is on the links before the Initials of the step.
+fn drain_all(table: &mut Table, step: Step) -> Result<bool, PlayFault> {
+    let mut came = false;
+    for from in 0..table.correct() {
+        for to in 0..table.correct() {
+            came |= drain(table, from, to, step)?;
+        }
+    }
+    Ok(came)
 }
 
 /// Delivers what is on the link before its sender's Initial of the step. Returns `true` if there
@@ -173,57 +221,9 @@ fn drain(table: &mut Table, from: u8, to: u8, step: Step) -> Result<bool, PlayFa
     Ok(came)
 }
 
-/// Delivers once around what is on the links before the Initials of the step.
-fn drain_all(table: &mut Table, step: Step) -> Result<bool, PlayFault> {
-    let mut came = false;
-    for from in 0..table.correct() {
-        for to in 0..table.correct() {
-            came |= drain(table, from, to, step)?;
-        }
-    }
-    Ok(came)
-}
-
-/// Delivers all that is on the links before the Initials of the step.
-fn drain_before(table: &mut Table, step: Step) -> Result<(), PlayFault> {
-    for _ in 0..u64::MAX {
-        if !drain_all(table, step)? {
-            return Ok(());
-        }
-    }
-    Ok(())
-}
-
-/// Plays a step.
-fn play_step(
-    table: &mut Table,
-    alloc: Global,
-    step: Step,
-    in_order: bool,
-) -> Result<(), PlayFault> {
-    let mut values = table.values(alloc, step)?;
-    values.truncate(usize::from(MOST_MEMBERS));
-    let stage = Stage {
-        step,
-        values: &values,
-        in_order,
-    };
-    for kind in [Kind::Initial, Kind::Echo, Kind::Ready] {
-        for to in 0..table.correct() {
-            bring_all(table, alloc, &stage, kind, to)?;
-        }
-    }
-    Ok(())
-}
-
-/// Delivers as the adversary does, until each correct member has decided, or all steps are played.
-pub fn deliver_chosen(table: &mut Table, alloc: Global, in_order: bool) -> Result<(), PlayFault> {
-    for step in 0..STEPS {
-        play_step(table, alloc, Step(step), in_order)?;
-        drain_before(table, Step(step + 1))?;
-        if table.is_decided() {
-            return Ok(());
-        }
-    }
-    Ok(())
+/// Returns `true` if the statement is an Initial of this step or a later one.
+fn is_ahead(statement: &Statement, step: Step) -> bool {
+    let place = statement.place();
+    let at = 3 * (usize::from(place.round()) - 1) + usize::from(place.step()) - 1;
+    statement.kind() == Kind::Initial && at >= step.0
 }

@@ -14,12 +14,16 @@ const HEAD: &str =
 /// The end of the picture.
 const FOOT: &str = "</svg>\n";
 
-/// Returns the height of a bar, 0 to 200, for this part of all.
-fn height(part: usize, all: usize) -> usize {
-    match part.checked_mul(200) {
-        Some(scaled) if all > 0 => scaled / all,
-        _ => 0,
+/// Returns the picture of these ends in SVG.
+pub fn chart_text(alloc: Global, ends: &[End]) -> Result<String, AllocError> {
+    let mut text = String::from_str(alloc, HEAD)?;
+    for before in 0..LAST_ROUND {
+        let round = before + 1;
+        let open = open_behind(ends, round);
+        text.push_str(bar_text(alloc, round, open, ends.len())?.as_str())?;
     }
+    text.push_str(FOOT)?;
+    Ok(text)
 }
 
 /// Returns the bar of a round with its number and its exact counts as a title.
@@ -33,14 +37,10 @@ fn bar_text(alloc: Global, round: u8, open: usize, all: usize) -> Result<String,
     )
 }
 
-/// Returns the picture of these ends in SVG.
-pub fn chart_text(alloc: Global, ends: &[End]) -> Result<String, AllocError> {
-    let mut text = String::from_str(alloc, HEAD)?;
-    for before in 0..LAST_ROUND {
-        let round = before + 1;
-        let open = open_behind(ends, round);
-        text.push_str(bar_text(alloc, round, open, ends.len())?.as_str())?;
+/// Returns the height of a bar, 0 to 200, for this part of all.
+fn height(part: usize, all: usize) -> usize {
+    match part.checked_mul(200) {
+        Some(scaled) if all > 0 => scaled / all,
+        _ => 0,
     }
-    text.push_str(FOOT)?;
-    Ok(text)
 }

@@ -15,6 +15,27 @@ pub enum End {
     TwoAnswers,
 }
 
+/// Returns how a question ended of which the correct members have these decisions, each with its
+/// round and bit.
+pub fn end_of(verdicts: &[Option<(u8, bool)>]) -> End
+    ensures { result ≡ end_of verdicts.now }
+{
+    if has_two_answers(verdicts) {
+        return End::TwoAnswers;
+    }
+    if has_open(verdicts) {
+        return End::Open;
+    }
+    End::Decided(last_round(verdicts))
+}
+
+/// Returns `true` if one decided each bit.
+fn has_two_answers(verdicts: &[Option<(u8, bool)>]) -> bool
+    ensures { result ≡ has_two_answers verdicts.now }
+{
+    has_bit(verdicts, false) && has_bit(verdicts, true)
+}
+
 /// Returns `true` if one decided this bit.
 fn has_bit(verdicts: &[Option<(u8, bool)>], bit: bool) -> bool
     ensures { result ≡ list_any (is_for bit) verdicts.now }
@@ -25,28 +46,11 @@ fn has_bit(verdicts: &[Option<(u8, bool)>], bit: bool) -> bool
     })
 }
 
-/// Returns `true` if one decided each bit.
-fn has_two_answers(verdicts: &[Option<(u8, bool)>]) -> bool
-    ensures { result ≡ has_two_answers verdicts.now }
-{
-    has_bit(verdicts, false) && has_bit(verdicts, true)
-}
-
 /// Returns `true` if one has no decision.
 fn has_open(verdicts: &[Option<(u8, bool)>]) -> bool
     ensures { result ≡ list_any is_open verdicts.now }
 {
     verdicts.iter().any(|verdict| verdict.is_none())
-}
-
-/// Returns the round of a decision, or 0.
-fn round_of(verdict: Option<(u8, bool)>) -> u8
-    ensures { result ≡ round_of verdict }
-{
-    match verdict {
-        Some((round, _)) => round,
-        None => 0,
-    }
 }
 
 /// Returns the last round of a decision, or 0.
@@ -60,16 +64,12 @@ fn last_round(verdicts: &[Option<(u8, bool)>]) -> u8
     last
 }
 
-/// Returns how a question ended of which the correct members have these decisions, each with its
-/// round and bit.
-pub fn end_of(verdicts: &[Option<(u8, bool)>]) -> End
-    ensures { result ≡ end_of verdicts.now }
+/// Returns the round of a decision, or 0.
+fn round_of(verdict: Option<(u8, bool)>) -> u8
+    ensures { result ≡ round_of verdict }
 {
-    if has_two_answers(verdicts) {
-        return End::TwoAnswers;
+    match verdict {
+        Some((round, _)) => round,
+        None => 0,
     }
-    if has_open(verdicts) {
-        return End::Open;
-    }
-    End::Decided(last_round(verdicts))
 }

@@ -13,33 +13,14 @@ pub fn count_of(ends: &[End], wanted: End) -> usize
     ends.iter().filter(|end| **end == wanted).count()
 }
 
-/// Returns the round of the decision, or 0.
-fn round_of(end: End) -> u8
-    ensures { result ≡ round_of end }
+/// Returns the table of these ends: for each round up to the last in which one was decided, `round
+/// R: K`; then `open: K` and `questions: K`.
+pub fn table_text(alloc: Global, ends: &[End]) -> Result<String, AllocError>
+    ensures { IfOk result (λ text. string_bytes text ≡ table_text ends.now) }
 {
-    match end {
-        End::Decided(round) => round,
-        End::Open | End::TwoAnswers => 0,
-    }
-}
-
-/// Returns the last round in which one of these was decided, or 0.
-fn last_round(ends: &[End]) -> u8
-    ensures { result ≡ last_round ends.now }
-{
-    let mut last = 0;
-    for end in ends {
-        last = last.max(round_of(*end));
-    }
-    last
-}
-
-/// Returns the line of a round.
-fn round_line(alloc: Global, ends: &[End], round: u8) -> Result<String, AllocError>
-    ensures { IfOk result (λ text. string_bytes text ≡ round_line ends.now round) }
-{
-    let count = count_of(ends, End::Decided(round));
-    format!(in alloc; "round {round}: {count}\n")
+    let mut text = round_lines(alloc, ends, last_round(ends))?;
+    text.push_str(sum_lines(alloc, ends)?.as_str())?;
+    Ok(text)
 }
 
 /// Returns the lines of the first rounds.
@@ -53,6 +34,35 @@ fn round_lines(alloc: Global, ends: &[End], rounds: u8) -> Result<String, AllocE
     Ok(text)
 }
 
+/// Returns the line of a round.
+fn round_line(alloc: Global, ends: &[End], round: u8) -> Result<String, AllocError>
+    ensures { IfOk result (λ text. string_bytes text ≡ round_line ends.now round) }
+{
+    let count = count_of(ends, End::Decided(round));
+    format!(in alloc; "round {round}: {count}\n")
+}
+
+/// Returns the last round in which one of these was decided, or 0.
+fn last_round(ends: &[End]) -> u8
+    ensures { result ≡ last_round ends.now }
+{
+    let mut last = 0;
+    for end in ends {
+        last = last.max(round_of(*end));
+    }
+    last
+}
+
+/// Returns the round of the decision, or 0.
+fn round_of(end: End) -> u8
+    ensures { result ≡ round_of end }
+{
+    match end {
+        End::Decided(round) => round,
+        End::Open | End::TwoAnswers => 0,
+    }
+}
+
 /// Returns the lines of the open ones and of all.
 fn sum_lines(alloc: Global, ends: &[End]) -> Result<String, AllocError>
     ensures { IfOk result (λ text. string_bytes text ≡ sum_lines ends.now) }
@@ -62,14 +72,13 @@ fn sum_lines(alloc: Global, ends: &[End]) -> Result<String, AllocError>
     format!(in alloc; "open: {open}\nquestions: {questions}\n")
 }
 
-/// Returns the table of these ends: for each round up to the last in which one was decided, `round
-/// R: K`; then `open: K` and `questions: K`.
-pub fn table_text(alloc: Global, ends: &[End]) -> Result<String, AllocError>
-    ensures { IfOk result (λ text. string_bytes text ≡ table_text ends.now) }
+/// Returns the number of these that are open behind the round: not decided in it or before.
+pub fn open_behind(ends: &[End], round: u8) -> usize
+    ensures { result ≡ open_behind round ends.now }
 {
-    let mut text = round_lines(alloc, ends, last_round(ends))?;
-    text.push_str(sum_lines(alloc, ends)?.as_str())?;
-    Ok(text)
+    ends.iter()
+        .filter(|end| is_open_behind(**end, round))
+        .count()
 }
 
 /// Returns `true` if a question that ended so was open behind the round.
@@ -80,13 +89,4 @@ fn is_open_behind(end: End, round: u8) -> bool
         End::Decided(last) => last > round,
         End::Open | End::TwoAnswers => true,
     }
-}
-
-/// Returns the number of these that are open behind the round: not decided in it or before.
-pub fn open_behind(ends: &[End], round: u8) -> usize
-    ensures { result ≡ open_behind round ends.now }
-{
-    ends.iter()
-        .filter(|end| is_open_behind(**end, round))
-        .count()
 }

@@ -15,50 +15,6 @@ pub struct Links {
     rows: Vec<Vec<Vec<Statement>>>,
 }
 
-/// Returns the empty queues of a sender to so many receivers.
-fn empty_row(alloc: Global, receivers: u8) -> Result<Vec<Vec<Statement>>, AllocError> {
-    let mut row = Vec::new(alloc);
-    for _ in 0..receivers {
-        row.push(Vec::new(alloc))?;
-    }
-    Ok(row)
-}
-
-/// Adds the statement to each queue of a sender.
-fn add_to_all(row: &mut Vec<Vec<Statement>>, statement: Statement) -> Result<(), AllocError> {
-    for queue in row.iter_mut() {
-        queue.push(statement)?;
-    }
-    Ok(())
-}
-
-/// Takes the statement at this place off a queue.
-fn take_at(queue: &mut Vec<Statement>, place: usize) -> Option<Statement>
-    ensures some { IfSome result (TakesOut place queue.old.items queue.new.items) }
-    ensures none { IsNone result ↔ length queue.old.items ≤ place }
-    ensures same { IsNone result → queue.new ≡ queue.old }
-{
-    if place < queue.len() {
-        Some(queue.remove(place))
-    } else {
-        None
-    }
-}
-
-/// Takes the statement at this place off the queue to this receiver.
-fn take_in(row: &mut Vec<Vec<Statement>>, to: u8, place: usize) -> Option<Statement>
-    ensures some { IfSome result
-        (TakesOut place (queue_to row.old.items to) (queue_to row.new.items to)) }
-    ensures none { IsNone result ↔ length (queue_to row.old.items to) ≤ place }
-    ensures others { (other : ℕ) → other ≢ to →
-        queue_to row.new.items other ≡ queue_to row.old.items other }
-{
-    match row.get_mut(usize::from(to)) {
-        Some(queue) => take_at(queue, place),
-        None => None,
-    }
-}
-
 #[tactic(auto, unfolding(crate::specs::Links::queue_of))]
 impl Links {
     /// Creates empty links from so many senders to so many receivers.
@@ -103,5 +59,49 @@ impl Links {
             Some(row) => take_in(row, to, place),
             None => None,
         }
+    }
+}
+
+/// Returns the empty queues of a sender to so many receivers.
+fn empty_row(alloc: Global, receivers: u8) -> Result<Vec<Vec<Statement>>, AllocError> {
+    let mut row = Vec::new(alloc);
+    for _ in 0..receivers {
+        row.push(Vec::new(alloc))?;
+    }
+    Ok(row)
+}
+
+/// Adds the statement to each queue of a sender.
+fn add_to_all(row: &mut Vec<Vec<Statement>>, statement: Statement) -> Result<(), AllocError> {
+    for queue in row.iter_mut() {
+        queue.push(statement)?;
+    }
+    Ok(())
+}
+
+/// Takes the statement at this place off the queue to this receiver.
+fn take_in(row: &mut Vec<Vec<Statement>>, to: u8, place: usize) -> Option<Statement>
+    ensures some { IfSome result
+        (TakesOut place (queue_to row.old.items to) (queue_to row.new.items to)) }
+    ensures none { IsNone result ↔ length (queue_to row.old.items to) ≤ place }
+    ensures others { (other : ℕ) → other ≢ to →
+        queue_to row.new.items other ≡ queue_to row.old.items other }
+{
+    match row.get_mut(usize::from(to)) {
+        Some(queue) => take_at(queue, place),
+        None => None,
+    }
+}
+
+/// Takes the statement at this place off a queue.
+fn take_at(queue: &mut Vec<Statement>, place: usize) -> Option<Statement>
+    ensures some { IfSome result (TakesOut place queue.old.items queue.new.items) }
+    ensures none { IsNone result ↔ length queue.old.items ≤ place }
+    ensures same { IsNone result → queue.new ≡ queue.old }
+{
+    if place < queue.len() {
+        Some(queue.remove(place))
+    } else {
+        None
     }
 }

@@ -10,11 +10,70 @@ use terms::{Kind, Value};
 /// The number of draws before the links are looked through for one that has something.
 const DRAWS: u32 = 64;
 
-/// A link.
-#[derive(Clone, Copy)]
-struct Link {
-    from: u8,
-    to: u8,
+/// Delivers in a drawn order until each correct member has decided, or nothing is left. The liars
+/// speak of a step as soon as each correct member has said its Initial of it.
+pub fn deliver_drawn(table: &mut Table, alloc: Global, seed: u64) -> Result<(), PlayFault> {
+    let mut draw = ChaChaTosser::from_seed(seed_bytes(seed), 1);
+    let mut next = Step(0);
+    for _ in 0..u64::MAX {
+        if table.is_decided() {
+            return Ok(());
+        }
+        if next.0 < STEPS && table.is_said(next) {
+            lie_all(table, alloc, next)?;
+            next = Step(next.0 + 1);
+        }
+        let Some(link) = busy_link(table, &mut draw) else {
+            return Ok(());
+        };
+        table.deliver(link.from, link.to, 0)?;
+    }
+    Ok(())
+}
+
+/// Lets each liar say its Initial of the step, and the Echo and the Ready of each broadcast of it.
+fn lie_all(table: &mut Table, alloc: Global, step: Step) -> Result<(), PlayFault> {
+    let values = table.values(alloc, step)?;
+    for liar in table.correct()..table.size().n() {
+        let Some(Some(value)) = values.get(usize::from(liar)) else {
+            continue;
+        };
+        if let Some(initial) = step.statement(Kind::Initial, liar, *value) {
+            table.lie_to_all(liar, &initial)?;
+        }
+        relay(table, step, &values, liar)?;
+    }
+    Ok(())
+}
+
+/// Lets a liar say the Echo and the Ready of each broadcast of the step.
+fn relay(
+    table: &mut Table,
+    step: Step,
+    values: &[Option<Value>],
+    liar: u8,
+) -> Result<(), PlayFault> {
+    for (origin, value) in values.iter().take(64).enumerate() {
+        let Some(value) = value else { continue };
+        for kind in [Kind::Echo, Kind::Ready] {
+            if let Some(statement) = step.statement(kind, origin as u8, *value) {
+                table.lie_to_all(liar, &statement)?;
+            }
+        }
+    }
+    Ok(())
+}
+
+/// Returns a drawn link that has something. `None` if no link has.
+fn busy_link(table: &Table, draw: &mut ChaChaTosser) -> Option<Link> {
+    for _ in 0..DRAWS {
+        let from = below(draw, table.size().n());
+        let to = below(draw, table.correct());
+        if !table.links().queue(from, to).is_empty() {
+            return Some(Link { from, to });
+        }
+    }
+    first_busy(table)
 }
 
 /// Returns a number below `bound`, or 0 if that is 0.
@@ -37,68 +96,9 @@ fn first_busy(table: &Table) -> Option<Link> {
     None
 }
 
-/// Returns a drawn link that has something. `None` if no link has.
-fn busy_link(table: &Table, draw: &mut ChaChaTosser) -> Option<Link> {
-    for _ in 0..DRAWS {
-        let from = below(draw, table.size().n());
-        let to = below(draw, table.correct());
-        if !table.links().queue(from, to).is_empty() {
-            return Some(Link { from, to });
-        }
-    }
-    first_busy(table)
-}
-
-/// Lets a liar say the Echo and the Ready of each broadcast of the step.
-fn relay(
-    table: &mut Table,
-    step: Step,
-    values: &[Option<Value>],
-    liar: u8,
-) -> Result<(), PlayFault> {
-    for (origin, value) in values.iter().take(64).enumerate() {
-        let Some(value) = value else { continue };
-        for kind in [Kind::Echo, Kind::Ready] {
-            if let Some(statement) = step.statement(kind, origin as u8, *value) {
-                table.lie_to_all(liar, &statement)?;
-            }
-        }
-    }
-    Ok(())
-}
-
-/// Lets each liar say its Initial of the step, and the Echo and the Ready of each broadcast of it.
-fn lie_all(table: &mut Table, alloc: Global, step: Step) -> Result<(), PlayFault> {
-    let values = table.values(alloc, step)?;
-    for liar in table.correct()..table.size().n() {
-        let Some(Some(value)) = values.get(usize::from(liar)) else {
-            continue;
-        };
-        if let Some(initial) = step.statement(Kind::Initial, liar, *value) {
-            table.lie_to_all(liar, &initial)?;
-        }
-        relay(table, step, &values, liar)?;
-    }
-    Ok(())
-}
-
-/// Delivers in a drawn order until each correct member has decided, or nothing is left. The liars
-/// speak of a step as soon as each correct member has said its Initial of it.
-pub fn deliver_drawn(table: &mut Table, alloc: Global, seed: u64) -> Result<(), PlayFault> {
-    let mut draw = ChaChaTosser::from_seed(seed_bytes(seed), 1);
-    let mut next = Step(0);
-    for _ in 0..u64::MAX {
-        if table.is_decided() {
-            return Ok(());
-        }
-        if next.0 < STEPS && table.is_said(next) {
-            lie_all(table, alloc, next)?;
-            next = Step(next.0 + 1);
-        }
-        let Some(link) = busy_link(table, &mut draw) else {
-            return Ok(());
-        };
-        table.deliver(link.from, link.to, 0)?;
-    }
-    Ok(())
+/// A link.
+#[derive(Clone, Copy)]
+struct Link {
+    from: u8,
+    to: u8,
 }

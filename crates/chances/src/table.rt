@@ -39,24 +39,6 @@ pub struct Table {
     decided: usize,
 }
 
-/// Returns the cores of so many correct members, new ones.
-fn new_cores(alloc: Global, size: Size, correct: u8) -> Result<Vec<Core>, PlayFault> {
-    let mut cores = Vec::new(alloc);
-    for me in 0..correct {
-        cores.push(Core::new(alloc, size, me, &[])?)?;
-    }
-    Ok(cores)
-}
-
-/// Returns so many empty lists.
-fn empty_lists(alloc: Global, count: u8) -> Result<Vec<Vec<Statement>>, AllocError> {
-    let mut lists = Vec::new(alloc);
-    for _ in 0..count {
-        lists.push(Vec::new(alloc))?;
-    }
-    Ok(lists)
-}
-
 impl Table {
     /// Sits down a question's members: of all, the last `liars` lie. `seed` gives the tosses.
     ///
@@ -128,32 +110,6 @@ impl Table {
         Ok(values)
     }
 
-    /// Puts down what a member said and decided.
-    fn note(&mut self, member: u8, record: &Record) -> Result<(), PlayFault> {
-        match record {
-            Record::Decided { .. } => self.decided = self.decided.saturating_add(1),
-            Record::Said(statement) => {
-                self.links.say(member, *statement)?;
-                if statement.kind() == Kind::Initial
-                    && let Some(said) = self.initials.get_mut(usize::from(member))
-                {
-                    said.push(*statement)?;
-                }
-            }
-        }
-        Ok(())
-    }
-
-    /// Puts down what a member answered.
-    fn note_all(&mut self, member: u8, answer: &Answer) -> Result<(), PlayFault> {
-        if let Answer::Taken(records) = answer {
-            for record in records {
-                self.note(member, record)?;
-            }
-        }
-        Ok(())
-    }
-
     /// Proposes a bit to a correct member.
     pub fn propose(&mut self, member: u8, bit: bool) -> Result<(), PlayFault> {
         let toss = self.tosses.toss();
@@ -162,16 +118,6 @@ impl Table {
         };
         let answer = core.propose(QUESTION, bit, toss)?;
         self.note_all(member, &answer)
-    }
-
-    /// Lets a correct member hear a statement.
-    fn hear(&mut self, from: u8, to: u8, statement: &Statement) -> Result<(), PlayFault> {
-        let toss = self.tosses.toss();
-        let Some(core) = self.cores.get_mut(usize::from(to)) else {
-            return Ok(());
-        };
-        let answer = core.hear(from, statement, toss)?;
-        self.note_all(to, &answer)
     }
 
     /// Delivers the statement at this place of the link's queue, from 0. Returns `false` if there
@@ -194,6 +140,42 @@ impl Table {
         self.hear(liar, to, statement)
     }
 
+    /// Lets a correct member hear a statement.
+    fn hear(&mut self, from: u8, to: u8, statement: &Statement) -> Result<(), PlayFault> {
+        let toss = self.tosses.toss();
+        let Some(core) = self.cores.get_mut(usize::from(to)) else {
+            return Ok(());
+        };
+        let answer = core.hear(from, statement, toss)?;
+        self.note_all(to, &answer)
+    }
+
+    /// Puts down what a member answered.
+    fn note_all(&mut self, member: u8, answer: &Answer) -> Result<(), PlayFault> {
+        if let Answer::Taken(records) = answer {
+            for record in records {
+                self.note(member, record)?;
+            }
+        }
+        Ok(())
+    }
+
+    /// Puts down what a member said and decided.
+    fn note(&mut self, member: u8, record: &Record) -> Result<(), PlayFault> {
+        match record {
+            Record::Decided { .. } => self.decided = self.decided.saturating_add(1),
+            Record::Said(statement) => {
+                self.links.say(member, *statement)?;
+                if statement.kind() == Kind::Initial
+                    && let Some(said) = self.initials.get_mut(usize::from(member))
+                {
+                    said.push(*statement)?;
+                }
+            }
+        }
+        Ok(())
+    }
+
     /// Lets a liar say this to all, on its links.
     pub fn lie_to_all(&mut self, liar: u8, statement: &Statement) -> Result<(), PlayFault> {
         if liar < self.correct() {
@@ -212,4 +194,22 @@ impl Table {
         }
         Ok(verdicts)
     }
+}
+
+/// Returns the cores of so many correct members, new ones.
+fn new_cores(alloc: Global, size: Size, correct: u8) -> Result<Vec<Core>, PlayFault> {
+    let mut cores = Vec::new(alloc);
+    for me in 0..correct {
+        cores.push(Core::new(alloc, size, me, &[])?)?;
+    }
+    Ok(cores)
+}
+
+/// Returns so many empty lists.
+fn empty_lists(alloc: Global, count: u8) -> Result<Vec<Vec<Statement>>, AllocError> {
+    let mut lists = Vec::new(alloc);
+    for _ in 0..count {
+        lists.push(Vec::new(alloc))?;
+    }
+    Ok(lists)
 }

@@ -15,13 +15,6 @@ pub struct Reading {
     decision: Option<bool>,
 }
 
-/// The bit as a vote.
-fn vote(bit: bool) -> Value
-    ensures { result ≡ plain bit }
-{
-    if bit { Value::One } else { Value::Zero }
-}
-
 impl Reading {
     /// A reading for a cluster of that size, before anybody told anything.
     #[tactic(auto, unfolding(crate::specs::Readings::Reads, crate::specs::Readings::size_of))]
@@ -100,4 +93,11 @@ fn decision_with(size: Size, votes: Votes, decision: Option<bool>, bit: bool) ->
             }
         }
     }
+}
+
+/// The bit as a vote.
+fn vote(bit: bool) -> Value
+    ensures { result ≡ plain bit }
+{
+    if bit { Value::One } else { Value::Zero }
 }

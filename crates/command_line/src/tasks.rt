@@ -35,6 +35,411 @@ use clap::{Arg, ArgAction, ArgMatches, Error, value_parser};
 use std::alloc::{AllocError, Global};
 use std::convert::AsStr;
 
+/// Returns what the words ask for, the program's name first among them. An `Err` is to be printed:
+/// it is a fault of the words, the help or the version.
+pub fn command<'a, S: AsStr>(alloc: Global, words: &'a [S]) -> Result<Request<'a>, Error>
+    ensures asks { IfOk result (λ order. AskFor (map S.text words.entry.now) order.task) }
+    ensures quiet { IfOk result (λ order. AreQuiet (map S.text words.entry.now) order.quiet) }
+    ensures faults { FailsBy (fault_of program_app (map S.text words.entry.now)) result }
+{
+    let matches = program(alloc)?.try_get_matches_from(words)?;
+    let quiet = is_quiet(&matches);
+    match task_of(&matches) {
+        Some(task) => Ok(Request { task, quiet }),
+        None => unreachable!(),
+    }
+}
+
+/// Returns `true` if `--quiet` was given, before the command or behind it.
+fn is_quiet(matches: &ArgMatches<'_>) -> bool
+    ensures { AsksForQuiet (rows_in matches.now) (subcommand_rows_of matches.now) result }
+{
+    flag_of(matches, "quiet") || is_quiet_below(matches)
+}
+
+/// Returns `true` if `--quiet` was given behind the command.
+fn is_quiet_below(matches: &ArgMatches<'_>) -> bool
+    ensures { IsTrue result ↔ SaysQuiet (subcommand_rows_of matches.now) }
+{
+    match matches.subcommand() {
+        Some((_, options)) => flag_of(options, "quiet"),
+        None => false,
+    }
+}
+
+/// The task of the command that was given.
+fn task_of<'a>(matches: &ArgMatches<'a>) -> Option<Task<'a>>
+    ensures some { IfSome result (IsAskedFor (subcommand_rows_of matches.now)) }
+    ensures none { IsNone result → (task : Task) →
+        IsAskedFor (subcommand_rows_of matches.now) task → ⊥ }
+{
+    let (name, options) = matches.subcommand()?;
+    named_task(name, options)
+}
+
+/// Returns the task of the command of that name.
+fn named_task<'a>(name: &str, options: &ArgMatches<'a>) -> Option<Task<'a>>
+    ensures some { IfSome result (Names name.now (rows_in options.now)) }
+    ensures none { IsNone result → (task : Task) → Names name.now (rows_in options.now) task → ⊥ }
+{
+    task_for(command_named(name)?, options)
+}
+
+/// Returns the task of the command, each of whose values the parser has demanded.
+fn task_for<'a>(command: Command, options: &ArgMatches<'a>) -> Option<Task<'a>>
+    ensures command { IfSome result (λ task. command_of task ≡ command) }
+    ensures some { IfSome result
+        (λ task. Hold (command_of task) (rows_in options.now) (words_of task)) }
+    ensures none { IsNone result → (words : Words command) →
+        Hold command (rows_in options.now) words → ⊥ }
+{
+    match command {
+        Command::NewCluster => Some(Task::NewCluster(new_cluster_of(options)?)),
+        Command::Init => Some(Task::Init(init_of(options)?)),
+        Command::Check => Some(Task::Check(check_of(options)?)),
+        Command::Run => Some(Task::Run(run_of(options)?)),
+        Command::Propose => Some(Task::Propose(propose_of(options)?)),
+        Command::Ask => Some(Task::Ask(ask_of(options)?)),
+        Command::Decide => Some(Task::Decide(decide_of(options)?)),
+        Command::Status => Some(Task::Status(status_of(options)?)),
+        Command::Transcript => Some(Task::Transcript(transcript_of(options)?)),
+        Command::Audit => Some(Task::Audit(audit_of(options)?)),
+        Command::Gateway => Some(Task::Gateway(gateway_of(options)?)),
+        Command::Epochs => Some(Task::Epochs(epochs_of(options)?)),
+        Command::Dump => Some(Task::Dump(dump_of(options)?)),
+        Command::Migrate => Some(Task::Migrate(migrate_of(options)?)),
+        Command::Simulate => Some(Task::Simulate(simulate_of(options)?)),
+        Command::Rounds => Some(Task::Rounds(rounds_of(options)?)),
+        Command::Hear => Some(Task::Hear(hear_of(options)?)),
+    }
+}
+
+/// The values of `new-cluster`'s words.
+fn new_cluster_of<'a>(options: &ArgMatches<'a>) -> Option<NewClusterWords<'a>>
+    ensures some { IfSome result (Hold commands.NewCluster (rows_in options.now)) }
+    ensures none { IsNone result → (words : NewClusterWords) →
+        Hold commands.NewCluster (rows_in options.now) words → ⊥ }
+{
+    let n = u16_of(options, "n")?;
+    let t = u16_of(options, "t")?;
+    let questions = u16_of(options, "questions")?;
+    let cluster = u32_of(options, "cluster")?;
+    let folder = text_of(options, "folder")?;
+    let hosts = text_of(options, "hosts");
+    let port = u16_of(options, "port");
+    let desk = text_of(options, "desk");
+    let epochs = flag_of(options, "epochs");
+    Some(NewClusterWords {
+        n,
+        t,
+        questions,
+        cluster,
+        folder,
+        hosts,
+        port,
+        desk,
+        epochs,
+    })
+}
+
+/// The value of `init`'s word.
+fn init_of<'a>(options: &ArgMatches<'a>) -> Option<InitWords<'a>>
+    ensures some { IfSome result (Hold commands.Init (rows_in options.now)) }
+    ensures none { IsNone result → (words : InitWords) →
+        Hold commands.Init (rows_in options.now) words → ⊥ }
+{
+    Some(InitWords {
+        settings: text_of(options, "settings")?,
+    })
+}
+
+/// The values of `check`'s words.
+fn check_of<'a>(options: &ArgMatches<'a>) -> Option<CheckWords<'a>>
+    ensures some { IfSome result (Hold commands.Check (rows_in options.now)) }
+    ensures none { IsNone result → (words : CheckWords) →
+        Hold commands.Check (rows_in options.now) words → ⊥ }
+{
+    Some(CheckWords {
+        settings: text_of(options, "settings")?,
+        json: flag_of(options, "json"),
+    })
+}
+
+/// The values of `run`'s words.
+fn run_of<'a>(options: &ArgMatches<'a>) -> Option<RunWords<'a>>
+    ensures some { IfSome result (Hold commands.Run (rows_in options.now)) }
+    ensures none { IsNone result → (words : RunWords) →
+        Hold commands.Run (rows_in options.now) words → ⊥ }
+{
+    Some(RunWords {
+        settings: text_of(options, "settings")?,
+        stay: flag_of(options, "stay"),
+        log: flag_of(options, "log"),
+        log_json: flag_of(options, "log-json"),
+        any_host: flag_of(options, "any-host"),
+    })
+}
+
+/// The values of `propose`'s words.
+fn propose_of<'a>(options: &ArgMatches<'a>) -> Option<ProposeWords<'a>>
+    ensures some { IfSome result (Hold commands.Propose (rows_in options.now)) }
+    ensures none { IsNone result → (words : ProposeWords) →
+        Hold commands.Propose (rows_in options.now) words → ⊥ }
+{
+    let to_all = flag_of(options, "all");
+    Some(ProposeWords {
+        address: text_of(options, "address")?,
+        question: u16_of(options, "question")?,
+        bit: u8_of(options, "bit")?,
+        all: to_all,
+        timeout: text_of(options, "timeout"),
+    })
+}
+
+/// The values of `ask`'s words.
+fn ask_of<'a>(options: &ArgMatches<'a>) -> Option<AskWords<'a>>
+    ensures some { IfSome result (Hold commands.Ask (rows_in options.now)) }
+    ensures none { IsNone result → (words : AskWords) →
+        Hold commands.Ask (rows_in options.now) words → ⊥ }
+{
+    let all = flag_of(options, "all");
+    Some(AskWords {
+        address: text_of(options, "address")?,
+        question: u16_of(options, "question")?,
+        all,
+        wait: flag_of(options, "wait"),
+        json: flag_of(options, "json"),
+        timeout: text_of(options, "timeout"),
+    })
+}
+
+/// The values of `decide`'s words.
+fn decide_of<'a>(options: &ArgMatches<'a>) -> Option<DecideWords<'a>>
+    ensures some { IfSome result (Hold commands.Decide (rows_in options.now)) }
+    ensures none { IsNone result → (words : DecideWords) →
+        Hold commands.Decide (rows_in options.now) words → ⊥ }
+{
+    Some(DecideWords {
+        file: text_of(options, "file")?,
+        question: u16_of(options, "question")?,
+        bit: u8_of(options, "bit")?,
+        json: flag_of(options, "json"),
+        timeout: text_of(options, "timeout"),
+    })
+}
+
+/// The values of `status`'s words.
+fn status_of<'a>(options: &ArgMatches<'a>) -> Option<StatusWords<'a>>
+    ensures some { IfSome result (Hold commands.Status (rows_in options.now)) }
+    ensures none { IsNone result → (words : StatusWords) →
+        Hold commands.Status (rows_in options.now) words → ⊥ }
+{
+    Some(StatusWords {
+        address: text_of(options, "address")?,
+        all: flag_of(options, "all"),
+        links: flag_of(options, "links"),
+        ready: flag_of(options, "ready"),
+        json: flag_of(options, "json"),
+        timeout: text_of(options, "timeout"),
+        question: u16_of(options, "question"),
+    })
+}
+
+/// The values of `transcript`'s words.
+fn transcript_of<'a>(options: &ArgMatches<'a>) -> Option<TranscriptWords<'a>>
+    ensures some { IfSome result (Hold commands.Transcript (rows_in options.now)) }
+    ensures none { IsNone result → (words : TranscriptWords) →
+        Hold commands.Transcript (rows_in options.now) words → ⊥ }
+{
+    Some(TranscriptWords {
+        address: text_of(options, "address")?,
+        question: u16_of(options, "question")?,
+        all: flag_of(options, "all"),
+        timeout: text_of(options, "timeout"),
+    })
+}
+
+/// The values of `audit`'s words.
+fn audit_of<'a>(options: &ArgMatches<'a>) -> Option<AuditWords<'a>>
+    ensures some { IfSome result (Hold commands.Audit (rows_in options.now)) }
+    ensures none { IsNone result → (words : AuditWords) →
+        Hold commands.Audit (rows_in options.now) words → ⊥ }
+{
+    Some(AuditWords {
+        file: text_of(options, "file")?,
+        question: u16_of(options, "question"),
+        all: flag_of(options, "all"),
+        n: u16_of(options, "n"),
+        t: u16_of(options, "t"),
+        questions: u16_of(options, "questions"),
+        timeout: text_of(options, "timeout"),
+    })
+}
+
+/// The values of `gateway`'s words.
+fn gateway_of<'a>(options: &ArgMatches<'a>) -> Option<GatewayWords<'a>>
+    ensures some { IfSome result (Hold commands.Gateway (rows_in options.now)) }
+    ensures none { IsNone result → (words : GatewayWords) →
+        Hold commands.Gateway (rows_in options.now) words → ⊥ }
+{
+    Some(GatewayWords {
+        file: text_of(options, "file")?,
+        listen: text_of(options, "listen"),
+        token: text_of(options, "token"),
+    })
+}
+
+/// The values of `epochs`'s words.
+fn epochs_of<'a>(options: &ArgMatches<'a>) -> Option<EpochsWords<'a>>
+    ensures some { IfSome result (Hold commands.Epochs (rows_in options.now)) }
+    ensures none { IsNone result → (words : EpochsWords) →
+        Hold commands.Epochs (rows_in options.now) words → ⊥ }
+{
+    Some(EpochsWords {
+        file: text_of(options, "file")?,
+        json: flag_of(options, "json"),
+        timeout: text_of(options, "timeout"),
+    })
+}
+
+/// The values of `dump`'s words.
+fn dump_of<'a>(options: &ArgMatches<'a>) -> Option<DumpWords<'a>>
+    ensures some { IfSome result (Hold commands.Dump (rows_in options.now)) }
+    ensures none { IsNone result → (words : DumpWords) →
+        Hold commands.Dump (rows_in options.now) words → ⊥ }
+{
+    Some(DumpWords {
+        journal: text_of(options, "journal")?,
+        count: flag_of(options, "count"),
+        json: flag_of(options, "json"),
+    })
+}
+
+/// The values of `migrate`'s words.
+fn migrate_of<'a>(options: &ArgMatches<'a>) -> Option<MigrateWords<'a>>
+    ensures some { IfSome result (Hold commands.Migrate (rows_in options.now)) }
+    ensures none { IsNone result → (words : MigrateWords) →
+        Hold commands.Migrate (rows_in options.now) words → ⊥ }
+{
+    Some(MigrateWords {
+        old: text_of(options, "old")?,
+        new: text_of(options, "new")?,
+    })
+}
+
+/// The values of `simulate`'s words.
+fn simulate_of<'a>(options: &ArgMatches<'a>) -> Option<SimulateWords<'a>>
+    ensures some { IfSome result (Hold commands.Simulate (rows_in options.now)) }
+    ensures none { IsNone result → (words : SimulateWords) →
+        Hold commands.Simulate (rows_in options.now) words → ⊥ }
+{
+    Some(SimulateWords {
+        script: text_of(options, "script"),
+        trace: text_of(options, "trace"),
+        chart: text_of(options, "chart"),
+        page: text_of(options, "page"),
+        question: u16_of(options, "question"),
+        member: u8_of(options, "member"),
+        from: u32_of(options, "from"),
+        to: u32_of(options, "to"),
+        forever: flag_of(options, "forever"),
+        seed: u32_of(options, "seed"),
+        seconds: u32_of(options, "seconds"),
+    })
+}
+
+/// Returns `true` if the flag was given.
+fn flag_of(options: &ArgMatches<'_>, id: &str) -> bool
+    ensures { HasFlag id.now (rows_in options.now) result }
+{
+    options.get_one::<bool>(id).unwrap_or(false)
+}
+
+/// The values of `rounds`'s options.
+fn rounds_of<'a>(options: &ArgMatches<'a>) -> Option<RoundsWords<'a>>
+    ensures some { IfSome result (Hold commands.Rounds (rows_in options.now)) }
+    ensures none { IsNone result → (words : RoundsWords) →
+        Hold commands.Rounds (rows_in options.now) words → ⊥ }
+{
+    Some(RoundsWords {
+        n: u16_of(options, "n")?,
+        t: u16_of(options, "t")?,
+        liars: u16_of(options, "liars"),
+        order: text_of(options, "order"),
+        seeds: u32_of(options, "seeds"),
+        chart: text_of(options, "chart"),
+    })
+}
+
+/// The text that was given for the id.
+fn text_of<'a>(options: &ArgMatches<'a>, id: &str) -> Option<&'a str>
+    ensures { option_map (λ text. text.now) result ≡ first_of id.now (rows_in options.now) }
+{
+    options.get_str(id)
+}
+
+/// The number that was given for the id, of 32 bits.
+fn u32_of(options: &ArgMatches<'_>, id: &str) -> Option<u32>
+    ensures { (n : ℕ) → (result ≡ Some n) ↔ HasNumberOption 32 id.now (rows_in options.now) n }
+{
+    options.get_one::<u32>(id)
+}
+
+/// The values of `hear`'s options, each of which the parser has demanded.
+fn hear_of(options: &ArgMatches<'_>) -> Option<HearWords>
+    ensures some { IfSome result (Hold commands.Hear (rows_in options.now)) }
+    ensures none { IsNone result → (words : HearWords) →
+        Hold commands.Hear (rows_in options.now) words → ⊥ }
+{
+    Some(HearWords {
+        n: u16_of(options, "n")?,
+        t: u16_of(options, "t")?,
+        questions: u16_of(options, "questions")?,
+        me: u8_of(options, "me")?,
+    })
+}
+
+/// The number that was given for the id.
+fn u16_of(options: &ArgMatches<'_>, id: &str) -> Option<u16>
+    ensures { (n : ℕ) → (result ≡ Some n) ↔ HasNumberOption 16 id.now (rows_in options.now) n }
+{
+    options.get_one::<u16>(id)
+}
+
+/// The number that was given for the id, of a byte.
+fn u8_of(options: &ArgMatches<'_>, id: &str) -> Option<u8>
+    ensures { (n : ℕ) → (result ≡ Some n) ↔ HasNumberOption 8 id.now (rows_in options.now) n }
+{
+    options.get_one::<u8>(id)
+}
+
+/// Returns the command of that name, if there is one.
+fn command_named(name: &str) -> Option<Command>
+    ensures some { IfSome result (λ command. name.now ≡ name_of command) }
+    ensures none { IsNone result → (command : Command) → name.now ≢ name_of command }
+{
+    match name {
+        "new-cluster" => Some(Command::NewCluster),
+        "init" => Some(Command::Init),
+        "check" => Some(Command::Check),
+        "run" => Some(Command::Run),
+        "propose" => Some(Command::Propose),
+        "ask" => Some(Command::Ask),
+        "decide" => Some(Command::Decide),
+        "status" => Some(Command::Status),
+        "transcript" => Some(Command::Transcript),
+        "audit" => Some(Command::Audit),
+        "gateway" => Some(Command::Gateway),
+        "epochs" => Some(Command::Epochs),
+        "dump" => Some(Command::Dump),
+        "migrate" => Some(Command::Migrate),
+        "simulate" => Some(Command::Simulate),
+        "rounds" => Some(Command::Rounds),
+        "hear" => Some(Command::Hear),
+        _ => None,
+    }
+}
+
 /// A required word, such as `SETTINGS`.
 fn word<'a>(alloc: Global, id: &'a str, value: &'a str, help: &'a str) -> Arg<'a>
     ensures { rule_of result ≡ word_rule id.now }
@@ -602,409 +1007,4 @@ fn program<'a>(alloc: Global) -> Built<'a>
     let program = with_command(alloc, program, simulate(alloc));
     let program = with_command(alloc, program, rounds(alloc));
     with_command(alloc, program, hear(alloc))
-}
-
-/// The text that was given for the id.
-fn text_of<'a>(options: &ArgMatches<'a>, id: &str) -> Option<&'a str>
-    ensures { option_map (λ text. text.now) result ≡ first_of id.now (rows_in options.now) }
-{
-    options.get_str(id)
-}
-
-/// The number that was given for the id.
-fn u16_of(options: &ArgMatches<'_>, id: &str) -> Option<u16>
-    ensures { (n : ℕ) → (result ≡ Some n) ↔ HasNumberOption 16 id.now (rows_in options.now) n }
-{
-    options.get_one::<u16>(id)
-}
-
-/// The number that was given for the id, of 32 bits.
-fn u32_of(options: &ArgMatches<'_>, id: &str) -> Option<u32>
-    ensures { (n : ℕ) → (result ≡ Some n) ↔ HasNumberOption 32 id.now (rows_in options.now) n }
-{
-    options.get_one::<u32>(id)
-}
-
-/// The number that was given for the id, of a byte.
-fn u8_of(options: &ArgMatches<'_>, id: &str) -> Option<u8>
-    ensures { (n : ℕ) → (result ≡ Some n) ↔ HasNumberOption 8 id.now (rows_in options.now) n }
-{
-    options.get_one::<u8>(id)
-}
-
-/// Returns `true` if the flag was given.
-fn flag_of(options: &ArgMatches<'_>, id: &str) -> bool
-    ensures { HasFlag id.now (rows_in options.now) result }
-{
-    options.get_one::<bool>(id).unwrap_or(false)
-}
-
-/// The values of `hear`'s options, each of which the parser has demanded.
-fn hear_of(options: &ArgMatches<'_>) -> Option<HearWords>
-    ensures some { IfSome result (Hold commands.Hear (rows_in options.now)) }
-    ensures none { IsNone result → (words : HearWords) →
-        Hold commands.Hear (rows_in options.now) words → ⊥ }
-{
-    Some(HearWords {
-        n: u16_of(options, "n")?,
-        t: u16_of(options, "t")?,
-        questions: u16_of(options, "questions")?,
-        me: u8_of(options, "me")?,
-    })
-}
-
-/// The values of `new-cluster`'s words.
-fn new_cluster_of<'a>(options: &ArgMatches<'a>) -> Option<NewClusterWords<'a>>
-    ensures some { IfSome result (Hold commands.NewCluster (rows_in options.now)) }
-    ensures none { IsNone result → (words : NewClusterWords) →
-        Hold commands.NewCluster (rows_in options.now) words → ⊥ }
-{
-    let n = u16_of(options, "n")?;
-    let t = u16_of(options, "t")?;
-    let questions = u16_of(options, "questions")?;
-    let cluster = u32_of(options, "cluster")?;
-    let folder = text_of(options, "folder")?;
-    let hosts = text_of(options, "hosts");
-    let port = u16_of(options, "port");
-    let desk = text_of(options, "desk");
-    let epochs = flag_of(options, "epochs");
-    Some(NewClusterWords {
-        n,
-        t,
-        questions,
-        cluster,
-        folder,
-        hosts,
-        port,
-        desk,
-        epochs,
-    })
-}
-
-/// The value of `init`'s word.
-fn init_of<'a>(options: &ArgMatches<'a>) -> Option<InitWords<'a>>
-    ensures some { IfSome result (Hold commands.Init (rows_in options.now)) }
-    ensures none { IsNone result → (words : InitWords) →
-        Hold commands.Init (rows_in options.now) words → ⊥ }
-{
-    Some(InitWords {
-        settings: text_of(options, "settings")?,
-    })
-}
-
-/// The values of `check`'s words.
-fn check_of<'a>(options: &ArgMatches<'a>) -> Option<CheckWords<'a>>
-    ensures some { IfSome result (Hold commands.Check (rows_in options.now)) }
-    ensures none { IsNone result → (words : CheckWords) →
-        Hold commands.Check (rows_in options.now) words → ⊥ }
-{
-    Some(CheckWords {
-        settings: text_of(options, "settings")?,
-        json: flag_of(options, "json"),
-    })
-}
-
-/// The values of `run`'s words.
-fn run_of<'a>(options: &ArgMatches<'a>) -> Option<RunWords<'a>>
-    ensures some { IfSome result (Hold commands.Run (rows_in options.now)) }
-    ensures none { IsNone result → (words : RunWords) →
-        Hold commands.Run (rows_in options.now) words → ⊥ }
-{
-    Some(RunWords {
-        settings: text_of(options, "settings")?,
-        stay: flag_of(options, "stay"),
-        log: flag_of(options, "log"),
-        log_json: flag_of(options, "log-json"),
-        any_host: flag_of(options, "any-host"),
-    })
-}
-
-/// The values of `propose`'s words.
-fn propose_of<'a>(options: &ArgMatches<'a>) -> Option<ProposeWords<'a>>
-    ensures some { IfSome result (Hold commands.Propose (rows_in options.now)) }
-    ensures none { IsNone result → (words : ProposeWords) →
-        Hold commands.Propose (rows_in options.now) words → ⊥ }
-{
-    let to_all = flag_of(options, "all");
-    Some(ProposeWords {
-        address: text_of(options, "address")?,
-        question: u16_of(options, "question")?,
-        bit: u8_of(options, "bit")?,
-        all: to_all,
-        timeout: text_of(options, "timeout"),
-    })
-}
-
-/// The values of `ask`'s words.
-fn ask_of<'a>(options: &ArgMatches<'a>) -> Option<AskWords<'a>>
-    ensures some { IfSome result (Hold commands.Ask (rows_in options.now)) }
-    ensures none { IsNone result → (words : AskWords) →
-        Hold commands.Ask (rows_in options.now) words → ⊥ }
-{
-    let all = flag_of(options, "all");
-    Some(AskWords {
-        address: text_of(options, "address")?,
-        question: u16_of(options, "question")?,
-        all,
-        wait: flag_of(options, "wait"),
-        json: flag_of(options, "json"),
-        timeout: text_of(options, "timeout"),
-    })
-}
-
-/// The values of `decide`'s words.
-fn decide_of<'a>(options: &ArgMatches<'a>) -> Option<DecideWords<'a>>
-    ensures some { IfSome result (Hold commands.Decide (rows_in options.now)) }
-    ensures none { IsNone result → (words : DecideWords) →
-        Hold commands.Decide (rows_in options.now) words → ⊥ }
-{
-    Some(DecideWords {
-        file: text_of(options, "file")?,
-        question: u16_of(options, "question")?,
-        bit: u8_of(options, "bit")?,
-        json: flag_of(options, "json"),
-        timeout: text_of(options, "timeout"),
-    })
-}
-
-/// The values of `status`'s words.
-fn status_of<'a>(options: &ArgMatches<'a>) -> Option<StatusWords<'a>>
-    ensures some { IfSome result (Hold commands.Status (rows_in options.now)) }
-    ensures none { IsNone result → (words : StatusWords) →
-        Hold commands.Status (rows_in options.now) words → ⊥ }
-{
-    Some(StatusWords {
-        address: text_of(options, "address")?,
-        all: flag_of(options, "all"),
-        links: flag_of(options, "links"),
-        ready: flag_of(options, "ready"),
-        json: flag_of(options, "json"),
-        timeout: text_of(options, "timeout"),
-        question: u16_of(options, "question"),
-    })
-}
-
-/// The values of `transcript`'s words.
-fn transcript_of<'a>(options: &ArgMatches<'a>) -> Option<TranscriptWords<'a>>
-    ensures some { IfSome result (Hold commands.Transcript (rows_in options.now)) }
-    ensures none { IsNone result → (words : TranscriptWords) →
-        Hold commands.Transcript (rows_in options.now) words → ⊥ }
-{
-    Some(TranscriptWords {
-        address: text_of(options, "address")?,
-        question: u16_of(options, "question")?,
-        all: flag_of(options, "all"),
-        timeout: text_of(options, "timeout"),
-    })
-}
-
-/// The values of `audit`'s words.
-fn audit_of<'a>(options: &ArgMatches<'a>) -> Option<AuditWords<'a>>
-    ensures some { IfSome result (Hold commands.Audit (rows_in options.now)) }
-    ensures none { IsNone result → (words : AuditWords) →
-        Hold commands.Audit (rows_in options.now) words → ⊥ }
-{
-    Some(AuditWords {
-        file: text_of(options, "file")?,
-        question: u16_of(options, "question"),
-        all: flag_of(options, "all"),
-        n: u16_of(options, "n"),
-        t: u16_of(options, "t"),
-        questions: u16_of(options, "questions"),
-        timeout: text_of(options, "timeout"),
-    })
-}
-
-/// The values of `gateway`'s words.
-fn gateway_of<'a>(options: &ArgMatches<'a>) -> Option<GatewayWords<'a>>
-    ensures some { IfSome result (Hold commands.Gateway (rows_in options.now)) }
-    ensures none { IsNone result → (words : GatewayWords) →
-        Hold commands.Gateway (rows_in options.now) words → ⊥ }
-{
-    Some(GatewayWords {
-        file: text_of(options, "file")?,
-        listen: text_of(options, "listen"),
-        token: text_of(options, "token"),
-    })
-}
-
-/// The values of `epochs`'s words.
-fn epochs_of<'a>(options: &ArgMatches<'a>) -> Option<EpochsWords<'a>>
-    ensures some { IfSome result (Hold commands.Epochs (rows_in options.now)) }
-    ensures none { IsNone result → (words : EpochsWords) →
-        Hold commands.Epochs (rows_in options.now) words → ⊥ }
-{
-    Some(EpochsWords {
-        file: text_of(options, "file")?,
-        json: flag_of(options, "json"),
-        timeout: text_of(options, "timeout"),
-    })
-}
-
-/// The values of `dump`'s words.
-fn dump_of<'a>(options: &ArgMatches<'a>) -> Option<DumpWords<'a>>
-    ensures some { IfSome result (Hold commands.Dump (rows_in options.now)) }
-    ensures none { IsNone result → (words : DumpWords) →
-        Hold commands.Dump (rows_in options.now) words → ⊥ }
-{
-    Some(DumpWords {
-        journal: text_of(options, "journal")?,
-        count: flag_of(options, "count"),
-        json: flag_of(options, "json"),
-    })
-}
-
-/// The values of `migrate`'s words.
-fn migrate_of<'a>(options: &ArgMatches<'a>) -> Option<MigrateWords<'a>>
-    ensures some { IfSome result (Hold commands.Migrate (rows_in options.now)) }
-    ensures none { IsNone result → (words : MigrateWords) →
-        Hold commands.Migrate (rows_in options.now) words → ⊥ }
-{
-    Some(MigrateWords {
-        old: text_of(options, "old")?,
-        new: text_of(options, "new")?,
-    })
-}
-
-/// The values of `simulate`'s words.
-fn simulate_of<'a>(options: &ArgMatches<'a>) -> Option<SimulateWords<'a>>
-    ensures some { IfSome result (Hold commands.Simulate (rows_in options.now)) }
-    ensures none { IsNone result → (words : SimulateWords) →
-        Hold commands.Simulate (rows_in options.now) words → ⊥ }
-{
-    Some(SimulateWords {
-        script: text_of(options, "script"),
-        trace: text_of(options, "trace"),
-        chart: text_of(options, "chart"),
-        page: text_of(options, "page"),
-        question: u16_of(options, "question"),
-        member: u8_of(options, "member"),
-        from: u32_of(options, "from"),
-        to: u32_of(options, "to"),
-        forever: flag_of(options, "forever"),
-        seed: u32_of(options, "seed"),
-        seconds: u32_of(options, "seconds"),
-    })
-}
-
-/// The values of `rounds`'s options.
-fn rounds_of<'a>(options: &ArgMatches<'a>) -> Option<RoundsWords<'a>>
-    ensures some { IfSome result (Hold commands.Rounds (rows_in options.now)) }
-    ensures none { IsNone result → (words : RoundsWords) →
-        Hold commands.Rounds (rows_in options.now) words → ⊥ }
-{
-    Some(RoundsWords {
-        n: u16_of(options, "n")?,
-        t: u16_of(options, "t")?,
-        liars: u16_of(options, "liars"),
-        order: text_of(options, "order"),
-        seeds: u32_of(options, "seeds"),
-        chart: text_of(options, "chart"),
-    })
-}
-
-/// Returns the command of that name, if there is one.
-fn command_named(name: &str) -> Option<Command>
-    ensures some { IfSome result (λ command. name.now ≡ name_of command) }
-    ensures none { IsNone result → (command : Command) → name.now ≢ name_of command }
-{
-    match name {
-        "new-cluster" => Some(Command::NewCluster),
-        "init" => Some(Command::Init),
-        "check" => Some(Command::Check),
-        "run" => Some(Command::Run),
-        "propose" => Some(Command::Propose),
-        "ask" => Some(Command::Ask),
-        "decide" => Some(Command::Decide),
-        "status" => Some(Command::Status),
-        "transcript" => Some(Command::Transcript),
-        "audit" => Some(Command::Audit),
-        "gateway" => Some(Command::Gateway),
-        "epochs" => Some(Command::Epochs),
-        "dump" => Some(Command::Dump),
-        "migrate" => Some(Command::Migrate),
-        "simulate" => Some(Command::Simulate),
-        "rounds" => Some(Command::Rounds),
-        "hear" => Some(Command::Hear),
-        _ => None,
-    }
-}
-
-/// Returns the task of the command, each of whose values the parser has demanded.
-fn task_for<'a>(command: Command, options: &ArgMatches<'a>) -> Option<Task<'a>>
-    ensures command { IfSome result (λ task. command_of task ≡ command) }
-    ensures some { IfSome result
-        (λ task. Hold (command_of task) (rows_in options.now) (words_of task)) }
-    ensures none { IsNone result → (words : Words command) →
-        Hold command (rows_in options.now) words → ⊥ }
-{
-    match command {
-        Command::NewCluster => Some(Task::NewCluster(new_cluster_of(options)?)),
-        Command::Init => Some(Task::Init(init_of(options)?)),
-        Command::Check => Some(Task::Check(check_of(options)?)),
-        Command::Run => Some(Task::Run(run_of(options)?)),
-        Command::Propose => Some(Task::Propose(propose_of(options)?)),
-        Command::Ask => Some(Task::Ask(ask_of(options)?)),
-        Command::Decide => Some(Task::Decide(decide_of(options)?)),
-        Command::Status => Some(Task::Status(status_of(options)?)),
-        Command::Transcript => Some(Task::Transcript(transcript_of(options)?)),
-        Command::Audit => Some(Task::Audit(audit_of(options)?)),
-        Command::Gateway => Some(Task::Gateway(gateway_of(options)?)),
-        Command::Epochs => Some(Task::Epochs(epochs_of(options)?)),
-        Command::Dump => Some(Task::Dump(dump_of(options)?)),
-        Command::Migrate => Some(Task::Migrate(migrate_of(options)?)),
-        Command::Simulate => Some(Task::Simulate(simulate_of(options)?)),
-        Command::Rounds => Some(Task::Rounds(rounds_of(options)?)),
-        Command::Hear => Some(Task::Hear(hear_of(options)?)),
-    }
-}
-
-/// Returns the task of the command of that name.
-fn named_task<'a>(name: &str, options: &ArgMatches<'a>) -> Option<Task<'a>>
-    ensures some { IfSome result (Names name.now (rows_in options.now)) }
-    ensures none { IsNone result → (task : Task) → Names name.now (rows_in options.now) task → ⊥ }
-{
-    task_for(command_named(name)?, options)
-}
-
-/// The task of the command that was given.
-fn task_of<'a>(matches: &ArgMatches<'a>) -> Option<Task<'a>>
-    ensures some { IfSome result (IsAskedFor (subcommand_rows_of matches.now)) }
-    ensures none { IsNone result → (task : Task) →
-        IsAskedFor (subcommand_rows_of matches.now) task → ⊥ }
-{
-    let (name, options) = matches.subcommand()?;
-    named_task(name, options)
-}
-
-/// Returns `true` if `--quiet` was given behind the command.
-fn is_quiet_below(matches: &ArgMatches<'_>) -> bool
-    ensures { IsTrue result ↔ SaysQuiet (subcommand_rows_of matches.now) }
-{
-    match matches.subcommand() {
-        Some((_, options)) => flag_of(options, "quiet"),
-        None => false,
-    }
-}
-
-/// Returns `true` if `--quiet` was given, before the command or behind it.
-fn is_quiet(matches: &ArgMatches<'_>) -> bool
-    ensures { AsksForQuiet (rows_in matches.now) (subcommand_rows_of matches.now) result }
-{
-    flag_of(matches, "quiet") || is_quiet_below(matches)
-}
-
-/// Returns what the words ask for, the program's name first among them. An `Err` is to be printed:
-/// it is a fault of the words, the help or the version.
-pub fn command<'a, S: AsStr>(alloc: Global, words: &'a [S]) -> Result<Request<'a>, Error>
-    ensures asks { IfOk result (λ order. AskFor (map S.text words.entry.now) order.task) }
-    ensures quiet { IfOk result (λ order. AreQuiet (map S.text words.entry.now) order.quiet) }
-    ensures faults { FailsBy (fault_of program_app (map S.text words.entry.now)) result }
-{
-    let matches = program(alloc)?.try_get_matches_from(words)?;
-    let quiet = is_quiet(&matches);
-    match task_of(&matches) {
-        Some(task) => Ok(Request { task, quiet }),
-        None => unreachable!(),
-    }
 }

@@ -22,11 +22,38 @@ use std::alloc::{AllocError, Global};
 use std::io::Write;
 use terms::Header;
 
-/// The line of a peer.
-fn peer_line(alloc: Global, peer: &Address) -> Result<String, AllocError>
-    ensures { IfOk result (λ text. string_bytes text ≡ peer_line peer.now) }
+/// Writes what the settings say: the line of `dump` for whose journal it is, the journal's path,
+/// the address of each member, in order, that of the desk, and `listen` and `desk-socket` if they
+/// are given. The seed is secret and not written.
+///
+/// [`DumpFault::Stream`] and [`DumpFault::Memory`]: the write or a growth failed.
+pub fn print_settings<W: Write>(
+    alloc: Global,
+    settings: &Settings,
+    output: &mut W,
+) -> Result<(), DumpFault>
+    ensures all { OnOk result
+        (Appends (W.contents output.old) (W.contents output.new) (settings_text settings.now)) }
+    ensures only { IfErr result IsOfPrint }
 {
-    format!(in alloc; "peer {}\n", address_text(alloc, peer)?)
+    let text = settings_text(alloc, settings)?;
+    output.write_all(text.as_bytes())?;
+    output.flush()?;
+    Ok(())
+}
+
+/// Returns what the settings say, but for the seed.
+fn settings_text(alloc: Global, settings: &Settings) -> Result<String, AllocError>
+    ensures { IfOk result (λ text. string_bytes text ≡ settings_text settings.now) }
+{
+    format!(in alloc;
+        "{}journal {}\n{}desk {}\n{}",
+        header_line(alloc, &settings.header)?,
+        settings.journal,
+        peer_lines(alloc, &settings.peers)?,
+        address_text(alloc, &settings.desk)?,
+        options_lines(alloc, settings)?
+    )
 }
 
 /// The lines of the peers, in order.
@@ -38,6 +65,23 @@ fn peer_lines(alloc: Global, peers: &[Address]) -> Result<String, AllocError>
         text.push_str(peer_line(alloc, peer)?.as_str())?;
     }
     Ok(text)
+}
+
+/// The line of a peer.
+fn peer_line(alloc: Global, peer: &Address) -> Result<String, AllocError>
+    ensures { IfOk result (λ text. string_bytes text ≡ peer_line peer.now) }
+{
+    format!(in alloc; "peer {}\n", address_text(alloc, peer)?)
+}
+
+/// The lines of the keys that may be left out.
+fn options_lines(alloc: Global, settings: &Settings) -> Result<String, AllocError>
+    ensures { IfOk result (λ text. string_bytes text ≡ options_lines settings.now) }
+{
+    let listen = listen_line(alloc, &settings.listen)?;
+    let socket = socket_line(alloc, &settings.desk_socket)?;
+    let epochs = epochs_line(alloc, &settings.epochs)?;
+    format!(in alloc; "{listen}{socket}{epochs}")
 }
 
 /// The line of the address that is listened at, if there is one.
@@ -76,57 +120,6 @@ fn epochs_line(alloc: Global, epochs: &Option<String>) -> Result<String, AllocEr
     }
 }
 
-/// The lines of the keys that may be left out.
-fn options_lines(alloc: Global, settings: &Settings) -> Result<String, AllocError>
-    ensures { IfOk result (λ text. string_bytes text ≡ options_lines settings.now) }
-{
-    let listen = listen_line(alloc, &settings.listen)?;
-    let socket = socket_line(alloc, &settings.desk_socket)?;
-    let epochs = epochs_line(alloc, &settings.epochs)?;
-    format!(in alloc; "{listen}{socket}{epochs}")
-}
-
-/// Returns what the settings say, but for the seed.
-fn settings_text(alloc: Global, settings: &Settings) -> Result<String, AllocError>
-    ensures { IfOk result (λ text. string_bytes text ≡ settings_text settings.now) }
-{
-    format!(in alloc;
-        "{}journal {}\n{}desk {}\n{}",
-        header_line(alloc, &settings.header)?,
-        settings.journal,
-        peer_lines(alloc, &settings.peers)?,
-        address_text(alloc, &settings.desk)?,
-        options_lines(alloc, settings)?
-    )
-}
-
-/// Writes what the settings say: the line of `dump` for whose journal it is, the journal's path,
-/// the address of each member, in order, that of the desk, and `listen` and `desk-socket` if they
-/// are given. The seed is secret and not written.
-///
-/// [`DumpFault::Stream`] and [`DumpFault::Memory`]: the write or a growth failed.
-pub fn print_settings<W: Write>(
-    alloc: Global,
-    settings: &Settings,
-    output: &mut W,
-) -> Result<(), DumpFault>
-    ensures all { OnOk result
-        (Appends (W.contents output.old) (W.contents output.new) (settings_text settings.now)) }
-    ensures only { IfErr result IsOfPrint }
-{
-    let text = settings_text(alloc, settings)?;
-    output.write_all(text.as_bytes())?;
-    output.flush()?;
-    Ok(())
-}
-
-/// The line that says how many records there are.
-fn records_line(alloc: Global, count: usize) -> Result<String, AllocError>
-    ensures { IfOk result (λ text. string_bytes text ≡ records_line count) }
-{
-    format!(in alloc; "records {count}\n")
-}
-
 /// Writes how many records the journal that the disk has holds, `records N`, if a member of this
 /// header can run on it. The status is 0.
 ///
@@ -155,6 +148,13 @@ pub fn check_journal<D: Disk, W: Write>(
     output.write_all(text.as_bytes())?;
     output.flush()?;
     Ok(0)
+}
+
+/// The line that says how many records there are.
+fn records_line(alloc: Global, count: usize) -> Result<String, AllocError>
+    ensures { IfOk result (λ text. string_bytes text ≡ records_line count) }
+{
+    format!(in alloc; "records {count}\n")
 }
 
 /// Writes what the settings say, but for the seed, and how many records the journal that the disk

@@ -61,92 +61,12 @@ pub fn links_line() -> &'static str
     "LINKS\n"
 }
 
-/// Returns `true` if the reply says that the member is up.
-fn is_up(reply: &[u8]) -> bool
-    ensures { IsTrue result ↔ IsUp reply.now }
-{
-    counts(reply).is_some()
-}
-
-/// Tells if the reply says how far the member is, how many of its links are up, or how a question
-/// stands there.
-fn says_standing(reply: &[u8]) -> bool
-    ensures { IsTrue result ↔ SaysStanding reply.now }
-{
-    is_up(reply) || has_links(reply) || is_stage(reply)
-}
-
-/// Returns `true` if the reply says that the member did as it was asked.
-fn is_good(reply: &[u8]) -> bool
-    ensures { IsTrue result ↔ IsGood reply.now }
-{
-    is(reply, "OK")
-        || is(reply, "HAVE 0")
-        || is(reply, "HAVE 1")
-        || is(reply, "DECIDED 0")
-        || is(reply, "DECIDED 1")
-        || is(reply, "UNDECIDED")
-        || says_standing(reply)
-}
-
-/// The status for a reply.
-fn status_of(reply: &[u8]) -> u8
-    ensures { HasStatus reply.now result }
-{
-    if is_good(reply) { 0 } else { 1 }
-}
-
 /// Returns the status for the reply of a member that is to be ready: 0 if it is `LINKS i o n w`
 /// with w links at least that come in and that go out, and 1 else.
 pub fn ready_status(reply: &[u8]) -> u8
     ensures { HasReadyStatus reply.now result }
 {
     if is_ready(reply) { 0 } else { 1 }
-}
-
-/// The next byte of the connection, if there is one.
-fn next_byte<R: Read>(connection: &mut R) -> Option<u8>
-    ensures { IfSome result
-        (λ byte. Consumes (R.remaining connection.old) (R.remaining connection.new) (byte ∷ [])) }
-{
-    let mut byte = [0];
-    match connection.read(&mut byte) {
-        Ok(1) => Some(byte[0]),
-        _ => None,
-    }
-}
-
-/// The reply: a line without its end.
-pub(crate) fn reply_of<R: Read>(alloc: Global, connection: &mut R) -> Result<Vec<u8>, TalkFault>
-    ensures { IfOk result
-        (λ reply. NoEnd reply.items × Consumes (R.remaining connection.old)
-        (R.remaining connection.new) (reply.items ++ 10 ∷ [])) }
-{
-    let mut reply = Vec::new(alloc);
-    for _ in 0..LONGEST_REPLY {
-        match next_byte(connection) {
-            None => return Err(TalkFault::NoAnswer),
-            Some(b'\n') => return Ok(reply),
-            Some(byte) => reply.push(byte)?,
-        }
-    }
-    Err(TalkFault::NoAnswer)
-}
-
-/// Sends the line.
-pub(crate) fn send<W: Write>(line: &str, connection: &mut W) -> Result<(), TalkFault>
-    ensures sent { IfOk result
-        (λ _. Appends (W.contents connection.old) (W.contents connection.new) line.now) }
-    ensures only { IfErr result (λ fault. fault ≡ NoAnswer) }
-{
-    match connection.write_all(line.as_bytes()) {
-        Ok(()) => {}
-        Err(_) => return Err(TalkFault::NoAnswer),
-    }
-    match connection.flush() {
-        Ok(()) => Ok(()),
-        Err(_) => Err(TalkFault::NoAnswer),
-    }
 }
 
 /// Sends the line over a connection to a member's desk, and reads one reply, which is given without
@@ -227,53 +147,6 @@ pub fn tell_of<W: Write>(
     Ok(status_of(reply))
 }
 
-/// The line of a member's number and of this object.
-fn object_line(alloc: Global, member: u8, object: &str) -> Result<String, AllocError>
-    ensures { IfOk result (λ text. string_bytes text ≡ member_object member object.now) }
-{
-    format!(in alloc; "{{\"member\":{member},\"reply\":{object}}}\n")
-}
-
-/// The same, of an object that is a string.
-fn text_line(alloc: Global, member: u8, object: &String) -> Result<String, AllocError>
-    ensures { IfOk result
-        (λ text. string_bytes text ≡ member_object member (string_bytes object.now)) }
-{
-    format!(in alloc; "{{\"member\":{member},\"reply\":{object}}}\n")
-}
-
-/// The line of a member's number and of the object that says the same as its reply.
-fn same_line(
-    alloc: Global,
-    member: u8,
-    _reply: &[u8],
-    object: &String,
-) -> Result<String, AllocError>
-    requires { SaysSame _reply.now (string_bytes object.now) }
-    ensures { IfOk result (λ text. IsMemberObject member _reply.now (string_bytes text)) }
-{
-    text_line(alloc, member, object)
-}
-
-/// The line of a member's number and of no reply of a desk.
-fn null_line(alloc: Global, member: u8, _reply: &[u8]) -> Result<String, AllocError>
-    requires { IsReplyLine _reply.now → ⊥ }
-    ensures { IfOk result (λ text. IsMemberObject member _reply.now (string_bytes text)) }
-{
-    object_line(alloc, member, "null")
-}
-
-/// The line of a member's number and of the object that says the same as its reply; `null` for no
-/// reply of a desk.
-fn member_object(alloc: Global, member: u8, reply: &[u8]) -> Result<String, AllocError>
-    ensures { IfOk result (λ text. IsMemberObject member reply.now (string_bytes text)) }
-{
-    match object_of(alloc, reply)? {
-        Some(object) => same_line(alloc, member, reply, &object),
-        None => null_line(alloc, member, reply),
-    }
-}
-
 /// Writes the object of JSON that says the same as a member's reply, in a line. The status is that
 /// of the reply.
 ///
@@ -293,6 +166,41 @@ pub fn tell_object_of<W: Write>(
     let text = member_object(alloc, member, reply)?;
     print_reply(text.as_bytes(), output)?;
     Ok(status_of(reply))
+}
+
+/// The status for a reply.
+fn status_of(reply: &[u8]) -> u8
+    ensures { HasStatus reply.now result }
+{
+    if is_good(reply) { 0 } else { 1 }
+}
+
+/// Returns `true` if the reply says that the member did as it was asked.
+fn is_good(reply: &[u8]) -> bool
+    ensures { IsTrue result ↔ IsGood reply.now }
+{
+    is(reply, "OK")
+        || is(reply, "HAVE 0")
+        || is(reply, "HAVE 1")
+        || is(reply, "DECIDED 0")
+        || is(reply, "DECIDED 1")
+        || is(reply, "UNDECIDED")
+        || says_standing(reply)
+}
+
+/// Tells if the reply says how far the member is, how many of its links are up, or how a question
+/// stands there.
+fn says_standing(reply: &[u8]) -> bool
+    ensures { IsTrue result ↔ SaysStanding reply.now }
+{
+    is_up(reply) || has_links(reply) || is_stage(reply)
+}
+
+/// Returns `true` if the reply says that the member is up.
+fn is_up(reply: &[u8]) -> bool
+    ensures { IsTrue result ↔ IsUp reply.now }
+{
+    counts(reply).is_some()
 }
 
 /// The line of a member's number and of its reply.
@@ -370,6 +278,51 @@ pub fn talk<R: Read, S: Write, W: Write>(
     tell(reply, output)
 }
 
+/// The reply: a line without its end.
+pub(crate) fn reply_of<R: Read>(alloc: Global, connection: &mut R) -> Result<Vec<u8>, TalkFault>
+    ensures { IfOk result
+        (λ reply. NoEnd reply.items × Consumes (R.remaining connection.old)
+        (R.remaining connection.new) (reply.items ++ 10 ∷ [])) }
+{
+    let mut reply = Vec::new(alloc);
+    for _ in 0..LONGEST_REPLY {
+        match next_byte(connection) {
+            None => return Err(TalkFault::NoAnswer),
+            Some(b'\n') => return Ok(reply),
+            Some(byte) => reply.push(byte)?,
+        }
+    }
+    Err(TalkFault::NoAnswer)
+}
+
+/// The next byte of the connection, if there is one.
+fn next_byte<R: Read>(connection: &mut R) -> Option<u8>
+    ensures { IfSome result
+        (λ byte. Consumes (R.remaining connection.old) (R.remaining connection.new) (byte ∷ [])) }
+{
+    let mut byte = [0];
+    match connection.read(&mut byte) {
+        Ok(1) => Some(byte[0]),
+        _ => None,
+    }
+}
+
+/// Sends the line.
+pub(crate) fn send<W: Write>(line: &str, connection: &mut W) -> Result<(), TalkFault>
+    ensures sent { IfOk result
+        (λ _. Appends (W.contents connection.old) (W.contents connection.new) line.now) }
+    ensures only { IfErr result (λ fault. fault ≡ NoAnswer) }
+{
+    match connection.write_all(line.as_bytes()) {
+        Ok(()) => {}
+        Err(_) => return Err(TalkFault::NoAnswer),
+    }
+    match connection.flush() {
+        Ok(()) => Ok(()),
+        Err(_) => Err(TalkFault::NoAnswer),
+    }
+}
+
 /// Writes the reply.
 pub(crate) fn print_reply<W: Write>(reply: &[u8], output: &mut W) -> Result<(), TalkFault>
     ensures written { IfOk result
@@ -379,4 +332,51 @@ pub(crate) fn print_reply<W: Write>(reply: &[u8], output: &mut W) -> Result<(), 
     output.write_all(reply)?;
     output.flush()?;
     Ok(())
+}
+
+/// The line of a member's number and of this object.
+fn object_line(alloc: Global, member: u8, object: &str) -> Result<String, AllocError>
+    ensures { IfOk result (λ text. string_bytes text ≡ member_object member object.now) }
+{
+    format!(in alloc; "{{\"member\":{member},\"reply\":{object}}}\n")
+}
+
+/// The same, of an object that is a string.
+fn text_line(alloc: Global, member: u8, object: &String) -> Result<String, AllocError>
+    ensures { IfOk result
+        (λ text. string_bytes text ≡ member_object member (string_bytes object.now)) }
+{
+    format!(in alloc; "{{\"member\":{member},\"reply\":{object}}}\n")
+}
+
+/// The line of a member's number and of the object that says the same as its reply; `null` for no
+/// reply of a desk.
+fn member_object(alloc: Global, member: u8, reply: &[u8]) -> Result<String, AllocError>
+    ensures { IfOk result (λ text. IsMemberObject member reply.now (string_bytes text)) }
+{
+    match object_of(alloc, reply)? {
+        Some(object) => same_line(alloc, member, reply, &object),
+        None => null_line(alloc, member, reply),
+    }
+}
+
+/// The line of a member's number and of the object that says the same as its reply.
+fn same_line(
+    alloc: Global,
+    member: u8,
+    _reply: &[u8],
+    object: &String,
+) -> Result<String, AllocError>
+    requires { SaysSame _reply.now (string_bytes object.now) }
+    ensures { IfOk result (λ text. IsMemberObject member _reply.now (string_bytes text)) }
+{
+    text_line(alloc, member, object)
+}
+
+/// The line of a member's number and of no reply of a desk.
+fn null_line(alloc: Global, member: u8, _reply: &[u8]) -> Result<String, AllocError>
+    requires { IsReplyLine _reply.now → ⊥ }
+    ensures { IfOk result (λ text. IsMemberObject member _reply.now (string_bytes text)) }
+{
+    object_line(alloc, member, "null")
 }

@@ -1,5 +1,5 @@
 //! The epochs of a chain that each member of a cluster has closed, and what the command `epochs`
-//! prints of them: begin at `told_of` and `tell_epochs`, last.
+//! prints of them: begin at `told_of` and `tell_epochs`.
 
 ghost use Rattle.std.specs.Prelude.{[], ◌≡◌, ◌≢◌, ◌∷◌, ◌++◌, ◌↔◌, Err, IfOk, IfSome, IsTrue, Some, false, option_map, string_bytes, true};
 ghost use Rattle.std.specs.Io.KnownBytes.{Appends, Consumes};
@@ -43,42 +43,6 @@ pub fn epochs_line() -> &'static str
     "EPOCHS\n"
 }
 
-/// The epochs that the words write.
-fn closing_in(words: &[u8]) -> Option<Closing>
-    ensures some { IfSome result (AreEpochs words.now) }
-    ensures exact { (epochs : Closing) → AreEpochs words.now epochs → result ≡ Some epochs }
-{
-    match two_counts(words) {
-        Some((closed, newest)) => Some(Closing { closed, newest }),
-        None => None,
-    }
-}
-
-/// The epochs that the reply says, where it is `EPOCHS C N`.
-fn closing_of(reply: &[u8]) -> Option<Closing>
-    ensures some { IfSome result (HasEpochs reply.now) }
-    ensures exact { (epochs : Closing) → HasEpochs reply.now epochs → result ≡ Some epochs }
-{
-    match behind(reply, "EPOCHS ") {
-        Some(words) => closing_in(words),
-        None => None,
-    }
-}
-
-/// Returns `true` if the reply is `EPOCHS C N`.
-fn has_epochs(reply: &[u8]) -> bool
-    ensures { IsTrue result ↔ IsEpochs reply.now }
-{
-    closing_of(reply).is_some()
-}
-
-/// Returns `true` if the line is a desk's answer to `EPOCHS`.
-fn is_answer(line: &[u8]) -> bool
-    ensures { IsTrue result ↔ IsAnswer line.now }
-{
-    has_epochs(line) || is_reply(line)
-}
-
 /// Sends the line that asks for epochs over a connection to a member's desk, and reads one reply,
 /// which is given without its end.
 ///
@@ -103,14 +67,18 @@ pub fn fetch_epochs<R: Read, S: Write>(
     }
 }
 
-/// The word that a reply is.
-fn told_by(reply: Vec<u8>) -> Told
-    ensures { IsTold (Some reply.items) result }
+/// Returns `true` if the line is a desk's answer to `EPOCHS`.
+fn is_answer(line: &[u8]) -> bool
+    ensures { IsTrue result ↔ IsAnswer line.now }
 {
-    match closing_of(&reply) {
-        Some(epochs) => Told::Epochs(epochs),
-        None => Told::Other(reply),
-    }
+    has_epochs(line) || is_reply(line)
+}
+
+/// Returns `true` if the reply is `EPOCHS C N`.
+fn has_epochs(reply: &[u8]) -> bool
+    ensures { IsTrue result ↔ IsEpochs reply.now }
+{
+    closing_of(reply).is_some()
 }
 
 /// Returns the word that a member's reply is, or that none came.
@@ -123,23 +91,46 @@ pub fn told_of(reply: Option<Vec<u8>>) -> Told
     }
 }
 
-/// The number of the first epoch that isn't closed at a member, if the member told it.
-fn closed_of(told: &Told) -> Option<u64>
-    ensures { result ≡ closed_of told.now }
+/// The word that a reply is.
+fn told_by(reply: Vec<u8>) -> Told
+    ensures { IsTold (Some reply.items) result }
 {
-    match told {
-        Told::Epochs(epochs) => Some(epochs.closed),
-        Told::Silent | Told::Other(_) => None,
+    match closing_of(&reply) {
+        Some(epochs) => Told::Epochs(epochs),
+        None => Told::Other(reply),
     }
 }
 
-/// The lesser of two numbers, if there are both.
-fn lesser(one: Option<u64>, other: Option<u64>) -> Option<u64>
-    ensures { result ≡ lesser one other }
+/// The epochs that the reply says, where it is `EPOCHS C N`.
+fn closing_of(reply: &[u8]) -> Option<Closing>
+    ensures some { IfSome result (HasEpochs reply.now) }
+    ensures exact { (epochs : Closing) → HasEpochs reply.now epochs → result ≡ Some epochs }
 {
-    match (one, other) {
-        (Some(one), Some(other)) => Some(one.min(other)),
-        _ => None,
+    match behind(reply, "EPOCHS ") {
+        Some(words) => closing_in(words),
+        None => None,
+    }
+}
+
+/// The epochs that the words write.
+fn closing_in(words: &[u8]) -> Option<Closing>
+    ensures some { IfSome result (AreEpochs words.now) }
+    ensures exact { (epochs : Closing) → AreEpochs words.now epochs → result ≡ Some epochs }
+{
+    match two_counts(words) {
+        Some((closed, newest)) => Some(Closing { closed, newest }),
+        None => None,
+    }
+}
+
+/// Returns the least number of a first epoch that isn't closed, if each member told one: all
+/// members say that they have closed the epochs before it.
+pub fn least_closed(told: &[Told]) -> Option<u64>
+    ensures { result ≡ least_closed told.now }
+{
+    match told {
+        [] => None,
+        [first, rest @ ..] => least_from(closed_of(first), rest),
     }
 }
 
@@ -154,134 +145,23 @@ fn least_from(first: Option<u64>, told: &[Told]) -> Option<u64>
     least
 }
 
-/// Returns the least number of a first epoch that isn't closed, if each member told one: all
-/// members say that they have closed the epochs before it.
-pub fn least_closed(told: &[Told]) -> Option<u64>
-    ensures { result ≡ least_closed told.now }
+/// The lesser of two numbers, if there are both.
+fn lesser(one: Option<u64>, other: Option<u64>) -> Option<u64>
+    ensures { result ≡ lesser one other }
+{
+    match (one, other) {
+        (Some(one), Some(other)) => Some(one.min(other)),
+        _ => None,
+    }
+}
+
+/// The number of the first epoch that isn't closed at a member, if the member told it.
+fn closed_of(told: &Told) -> Option<u64>
+    ensures { result ≡ closed_of told.now }
 {
     match told {
-        [] => None,
-        [first, rest @ ..] => least_from(closed_of(first), rest),
-    }
-}
-
-/// The line of a member, by its number.
-fn told_line(alloc: Global, member: usize, told: &Told) -> Result<Vec<u8>, AllocError>
-    ensures { IfOk result (λ line. line.items ≡ told_line member told.now) }
-{
-    match told {
-        Told::Silent => reply_line(alloc, member, b"no answer"),
-        Told::Other(reply) => reply_line(alloc, member, reply),
-        Told::Epochs(epochs) => {
-            let (closed, newest) = (epochs.closed, epochs.newest);
-            let words = format!(in alloc; "closed {closed} newest {newest}")?;
-            reply_line(alloc, member, words.as_bytes())
-        }
-    }
-}
-
-/// The lines of the members, in order.
-fn told_lines(alloc: Global, told: &[Told]) -> Result<Vec<u8>, AllocError>
-    ensures { IfOk result (λ text. text.items ≡ told_lines 0 told.now) }
-{
-    let mut text = Vec::new(alloc);
-    for member in 0..told.len() {
-        let line = told_line(alloc, member, &told[member])?;
-        text.extend_from_slice(&line)?;
-    }
-    Ok(text)
-}
-
-/// The line of the least number, if there is one.
-fn closed_line(alloc: Global, closed: Option<u64>) -> Result<String, AllocError>
-    ensures { IfOk result (λ line. string_bytes line ≡ closed_line closed) }
-{
-    match closed {
-        Some(closed) => format!(in alloc; "closed {closed}\n"),
-        None => String::from_str(alloc, "closed unknown\n"),
-    }
-}
-
-/// The lines of the members and of the least number.
-fn epochs_text(alloc: Global, told: &[Told]) -> Result<Vec<u8>, AllocError>
-    ensures { IfOk result (λ text. text.items ≡ epochs_text told.now) }
-{
-    let mut text = told_lines(alloc, told)?;
-    let line = closed_line(alloc, least_closed(told))?;
-    text.extend_from_slice(line.as_bytes())?;
-    Ok(text)
-}
-
-/// A number in JSON, or `null`.
-fn number_word(alloc: Global, number: Option<u64>) -> Result<String, AllocError>
-    ensures { IfOk result (λ word. string_bytes word ≡ number_word number) }
-{
-    match number {
-        Some(number) => format!(in alloc; "{number}"),
-        None => String::from_str(alloc, "null"),
-    }
-}
-
-/// The object of a member behind a comma.
-fn told_item(alloc: Global, member: usize, told: &Told) -> Result<String, AllocError>
-    ensures { IfOk result (λ item. string_bytes item ≡ told_item member told.now) }
-{
-    match told {
-        Told::Epochs(epochs) => {
-            let (closed, newest) = (epochs.closed, epochs.newest);
-            format!(in alloc; ",{{\"member\":{member},\"closed\":{closed},\"newest\":{newest}}}")
-        }
-        Told::Silent | Told::Other(_) => {
-            format!(in alloc; ",{{\"member\":{member},\"closed\":null,\"newest\":null}}")
-        }
-    }
-}
-
-/// The objects of the members, a comma before each.
-fn told_items(alloc: Global, told: &[Told]) -> Result<String, AllocError>
-    ensures { IfOk result (λ text. string_bytes text ≡ told_items 0 told.now) }
-{
-    let mut text = String::new(alloc);
-    for member in 0..told.len() {
-        let item = told_item(alloc, member, &told[member])?;
-        text.push_str(item.as_str())?;
-    }
-    Ok(text)
-}
-
-/// The object of the members and of the least number, in a line.
-fn epochs_object(alloc: Global, told: &[Told]) -> Result<Vec<u8>, AllocError>
-    ensures { IfOk result (λ object. object.items ≡ epochs_object told.now) }
-{
-    let items = told_items(alloc, told)?;
-    let closed = number_word(alloc, least_closed(told))?;
-    let mut object = Vec::new(alloc);
-    object.extend_from_slice(b"{\"members\":[")?;
-    object.extend_from_slice(behind_first(items.as_bytes()))?;
-    object.extend_from_slice(b"],\"closed\":")?;
-    object.extend_from_slice(closed.as_bytes())?;
-    object.extend_from_slice(b"}\n")?;
-    Ok(object)
-}
-
-/// The lines, or the object.
-fn epochs_words(alloc: Global, told: &[Told], json: bool) -> Result<Vec<u8>, AllocError>
-    ensures lines { json ≡ false → IfOk result (λ words. words.items ≡ epochs_text told.now) }
-    ensures object { json ≡ true → IfOk result (λ words. words.items ≡ epochs_object told.now) }
-{
-    if json {
-        return epochs_object(alloc, told);
-    }
-    epochs_text(alloc, told)
-}
-
-/// The status for the least number, or for none.
-fn closed_status(closed: Option<u64>) -> u8
-    ensures { result ≡ closed_status closed }
-{
-    match closed {
-        Some(_) => 0,
-        None => 1,
+        Told::Epochs(epochs) => Some(epochs.closed),
+        Told::Silent | Told::Other(_) => None,
     }
 }
 
@@ -308,4 +188,124 @@ pub fn tell_epochs<W: Write>(
     let words = epochs_words(alloc, told, json)?;
     print_reply(&words, output)?;
     Ok(closed_status(least_closed(told)))
+}
+
+/// The status for the least number, or for none.
+fn closed_status(closed: Option<u64>) -> u8
+    ensures { result ≡ closed_status closed }
+{
+    match closed {
+        Some(_) => 0,
+        None => 1,
+    }
+}
+
+/// The lines, or the object.
+fn epochs_words(alloc: Global, told: &[Told], json: bool) -> Result<Vec<u8>, AllocError>
+    ensures lines { json ≡ false → IfOk result (λ words. words.items ≡ epochs_text told.now) }
+    ensures object { json ≡ true → IfOk result (λ words. words.items ≡ epochs_object told.now) }
+{
+    if json {
+        return epochs_object(alloc, told);
+    }
+    epochs_text(alloc, told)
+}
+
+/// The lines of the members and of the least number.
+fn epochs_text(alloc: Global, told: &[Told]) -> Result<Vec<u8>, AllocError>
+    ensures { IfOk result (λ text. text.items ≡ epochs_text told.now) }
+{
+    let mut text = told_lines(alloc, told)?;
+    let line = closed_line(alloc, least_closed(told))?;
+    text.extend_from_slice(line.as_bytes())?;
+    Ok(text)
+}
+
+/// The lines of the members, in order.
+fn told_lines(alloc: Global, told: &[Told]) -> Result<Vec<u8>, AllocError>
+    ensures { IfOk result (λ text. text.items ≡ told_lines 0 told.now) }
+{
+    let mut text = Vec::new(alloc);
+    for member in 0..told.len() {
+        let line = told_line(alloc, member, &told[member])?;
+        text.extend_from_slice(&line)?;
+    }
+    Ok(text)
+}
+
+/// The line of a member, by its number.
+fn told_line(alloc: Global, member: usize, told: &Told) -> Result<Vec<u8>, AllocError>
+    ensures { IfOk result (λ line. line.items ≡ told_line member told.now) }
+{
+    match told {
+        Told::Silent => reply_line(alloc, member, b"no answer"),
+        Told::Other(reply) => reply_line(alloc, member, reply),
+        Told::Epochs(epochs) => {
+            let (closed, newest) = (epochs.closed, epochs.newest);
+            let words = format!(in alloc; "closed {closed} newest {newest}")?;
+            reply_line(alloc, member, words.as_bytes())
+        }
+    }
+}
+
+/// The line of the least number, if there is one.
+fn closed_line(alloc: Global, closed: Option<u64>) -> Result<String, AllocError>
+    ensures { IfOk result (λ line. string_bytes line ≡ closed_line closed) }
+{
+    match closed {
+        Some(closed) => format!(in alloc; "closed {closed}\n"),
+        None => String::from_str(alloc, "closed unknown\n"),
+    }
+}
+
+/// The object of the members and of the least number, in a line.
+fn epochs_object(alloc: Global, told: &[Told]) -> Result<Vec<u8>, AllocError>
+    ensures { IfOk result (λ object. object.items ≡ epochs_object told.now) }
+{
+    let items = told_items(alloc, told)?;
+    let closed = number_word(alloc, least_closed(told))?;
+    let mut object = Vec::new(alloc);
+    object.extend_from_slice(b"{\"members\":[")?;
+    object.extend_from_slice(behind_first(items.as_bytes()))?;
+    object.extend_from_slice(b"],\"closed\":")?;
+    object.extend_from_slice(closed.as_bytes())?;
+    object.extend_from_slice(b"}\n")?;
+    Ok(object)
+}
+
+/// The objects of the members, a comma before each.
+fn told_items(alloc: Global, told: &[Told]) -> Result<String, AllocError>
+    ensures { IfOk result (λ text. string_bytes text ≡ told_items 0 told.now) }
+{
+    let mut text = String::new(alloc);
+    for member in 0..told.len() {
+        let item = told_item(alloc, member, &told[member])?;
+        text.push_str(item.as_str())?;
+    }
+    Ok(text)
+}
+
+/// The object of a member behind a comma.
+fn told_item(alloc: Global, member: usize, told: &Told) -> Result<String, AllocError>
+    ensures { IfOk result (λ item. string_bytes item ≡ told_item member told.now) }
+{
+    match told {
+        Told::Epochs(epochs) => {
+            let (closed, newest) = (epochs.closed, epochs.newest);
+            format!(in alloc; ",{{\"member\":{member},\"closed\":{closed},\"newest\":{newest}}}")
+        }
+        Told::Silent | Told::Other(_) => {
+            format!(in alloc; ",{{\"member\":{member},\"closed\":null,\"newest\":null}}")
+        }
+    }
+}
+
+/// A number in JSON, or `null`.
+fn number_word(alloc: Global, number: Option<u64>) -> Result<String, AllocError>
+    ensures { IfOk result (λ word. string_bytes word ≡ number_word number) }
+{
+    match number {
+        Some(number) => format!(in alloc; "{number}"),
+        None => String::from_str(alloc, "null"),
+    }
 }

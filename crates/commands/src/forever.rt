@@ -20,13 +20,15 @@ pub struct Tried {
     pub judgement: Judgement,
 }
 
-/// Returns the trace that `simulate` prints of a run.
-fn trace(alloc: Global, simulation: &Simulation) -> Result<Vec<u8>, SimulateFault>
-    ensures { IfOk result (λ bytes. bytes.items ≡ trace_of simulation.now) }
-{
-    let mut trace = Vec::new(alloc);
-    simulation.write_trace(alloc, &mut trace)?;
-    Ok(trace)
+/// Plays the script of this number that the seed draws, and judges the trace that `simulate` prints
+/// of it.
+///
+/// # Errors
+///
+/// - [`SimulateFault::Memory`] if an allocation failed;
+/// - one of the others if the simulator doesn't take the script that was drawn.
+pub fn try_script(alloc: Global, seed: u64, number: u64) -> Result<Tried, SimulateFault> {
+    try_trial(alloc, drawn(alloc, seed, number)?)
 }
 
 /// Plays the script, and judges the trace that `simulate` prints of it.
@@ -44,13 +46,11 @@ fn try_trial(alloc: Global, trial: Trial) -> Result<Tried, SimulateFault>
     })
 }
 
-/// Plays the script of this number that the seed draws, and judges the trace that `simulate` prints
-/// of it.
-///
-/// # Errors
-///
-/// - [`SimulateFault::Memory`] if an allocation failed;
-/// - one of the others if the simulator doesn't take the script that was drawn.
-pub fn try_script(alloc: Global, seed: u64, number: u64) -> Result<Tried, SimulateFault> {
-    try_trial(alloc, drawn(alloc, seed, number)?)
+/// Returns the trace that `simulate` prints of a run.
+fn trace(alloc: Global, simulation: &Simulation) -> Result<Vec<u8>, SimulateFault>
+    ensures { IfOk result (λ bytes. bytes.items ≡ trace_of simulation.now) }
+{
+    let mut trace = Vec::new(alloc);
+    simulation.write_trace(alloc, &mut trace)?;
+    Ok(trace)
 }

@@ -12,11 +12,43 @@ use migration::{MigrateFault, peek_old, stage};
 use std::alloc::{AllocError, Global};
 use std::io::Write;
 
-/// The line that says how many records were brought over.
-fn migrated_text(alloc: Global, count: u64) -> Result<String, AllocError>
-    ensures { IfOk result (λ text. string_bytes text ≡ migrated_text count) }
+/// Brings the records of the old file, a journal of version 1, over into the new one, which is
+/// empty and becomes a journal, and writes how many they are: `migrated C` in a line. The old file
+/// is never written. Gives the new disk back: its file holds just these records, in whatever a
+/// crash can leave of it.
+///
+/// A fault hands the new disk back too:
+/// - [`MigrationFault::Migrate`]: it wasn't brought over, and nothing was printed; the new file is
+///   to be thrown away.
+/// - [`MigrationFault::Stream`]: the new file is whole, as after no fault, but a write of the line
+///   failed.
+pub fn migrate_disks<D: Disk, E: Disk, W: Write>(
+    alloc: Global,
+    old: &mut D,
+    new: E,
+    output: &mut W,
+) -> Result<E, (MigrationFault, E)>
+    ensures migrated { IfOk result
+        (λ disk. (count : ℕ) × HasMigrated D.Disk E.Disk old.old old.new new count disk
+        × Appends (W.contents output.old) (W.contents output.new) (migrated_text count)) }
+    ensures whole_at_stream { IfErr result (λ refused. refused.0 ≡ MigrationFault.Stream →
+        (count : ℕ) × HasMigrated D.Disk E.Disk old.old old.new new count refused.1) }
+    ensures fault { IfErr result
+        (λ refused. (why : MigrateFault) → refused.0 ≡ MigrationFault.Migrate why →
+        HasNotMigrated D.Disk E.Disk old.old old.new new why refused.1) }
+    ensures nothing { IfErr result
+        (λ refused. (why : MigrateFault) → refused.0 ≡ MigrationFault.Migrate why →
+        output.new ≡ output.old) }
+    ensures untouched { IsUntouched D.Disk old.old old.new }
 {
-    format!(in alloc; "migrated {count}\n")
+    let (disk, count) = match bring_over(alloc, old, new) {
+        Ok(done) => done,
+        Err((fault, disk)) => return Err((MigrationFault::Migrate(fault), disk)),
+    };
+    match print_migrated(alloc, count, output) {
+        Ok(()) => Ok(disk),
+        Err(fault) => Err((fault, disk)),
+    }
 }
 
 /// Brings the records over, and gives the new disk back and the number of records.
@@ -59,41 +91,9 @@ fn print_migrated<W: Write>(alloc: Global, count: u64, output: &mut W) -> Result
     Ok(())
 }
 
-/// Brings the records of the old file, a journal of version 1, over into the new one, which is
-/// empty and becomes a journal, and writes how many they are: `migrated C` in a line. The old file
-/// is never written. Gives the new disk back: its file holds just these records, in whatever a
-/// crash can leave of it.
-///
-/// A fault hands the new disk back too:
-/// - [`MigrationFault::Migrate`]: it wasn't brought over, and nothing was printed; the new file is
-///   to be thrown away.
-/// - [`MigrationFault::Stream`]: the new file is whole, as after no fault, but a write of the line
-///   failed.
-pub fn migrate_disks<D: Disk, E: Disk, W: Write>(
-    alloc: Global,
-    old: &mut D,
-    new: E,
-    output: &mut W,
-) -> Result<E, (MigrationFault, E)>
-    ensures migrated { IfOk result
-        (λ disk. (count : ℕ) × HasMigrated D.Disk E.Disk old.old old.new new count disk
-        × Appends (W.contents output.old) (W.contents output.new) (migrated_text count)) }
-    ensures whole_at_stream { IfErr result (λ refused. refused.0 ≡ MigrationFault.Stream →
-        (count : ℕ) × HasMigrated D.Disk E.Disk old.old old.new new count refused.1) }
-    ensures fault { IfErr result
-        (λ refused. (why : MigrateFault) → refused.0 ≡ MigrationFault.Migrate why →
-        HasNotMigrated D.Disk E.Disk old.old old.new new why refused.1) }
-    ensures nothing { IfErr result
-        (λ refused. (why : MigrateFault) → refused.0 ≡ MigrationFault.Migrate why →
-        output.new ≡ output.old) }
-    ensures untouched { IsUntouched D.Disk old.old old.new }
+/// The line that says how many records were brought over.
+fn migrated_text(alloc: Global, count: u64) -> Result<String, AllocError>
+    ensures { IfOk result (λ text. string_bytes text ≡ migrated_text count) }
 {
-    let (disk, count) = match bring_over(alloc, old, new) {
-        Ok(done) => done,
-        Err((fault, disk)) => return Err((MigrationFault::Migrate(fault), disk)),
-    };
-    match print_migrated(alloc, count, output) {
-        Ok(()) => Ok(disk),
-        Err(fault) => Err((fault, disk)),
-    }
+    format!(in alloc; "migrated {count}\n")
 }

@@ -8,34 +8,6 @@ use crate::stages::{is_stage, stage_object_of};
 use numerals::{behind, is, number, split_at_space};
 use std::alloc::{AllocError, Global};
 
-/// The number that a word of a reply writes: no digit stands before it that could be left out.
-fn count(word: &[u8]) -> Option<u64>
-    ensures some { IfSome result (IsCount word.now) }
-    ensures exact { (n : ℕ) → IsCount word.now n → result ≡ Some n }
-{
-    if word.len() > 1 && word[0] == b'0' {
-        return None;
-    }
-    number(word)
-}
-
-/// The two numbers that the words write.
-pub(crate) fn two_counts(words: &[u8]) -> Option<(u64, u64)>
-    ensures some { IfSome result (λ found. AreCounts words.now found.0 found.1) }
-    ensures exact { (m d : ℕ) → AreCounts words.now m d → result ≡ Some (m, d) }
-{
-    let Some((first, second)) = split_at_space(words) else {
-        return None;
-    };
-    let Some(statements) = count(first) else {
-        return None;
-    };
-    let Some(decided) = count(second) else {
-        return None;
-    };
-    Some((statements, decided))
-}
-
 /// The numbers of statements and of decisions that the reply says, where it is `UP m d`.
 pub fn counts(reply: &[u8]) -> Option<(u64, u64)>
     ensures some { IfSome result (λ found. HasCounts reply.now found.0 found.1) }
@@ -60,48 +32,14 @@ pub struct Links {
     pub needed: u64,
 }
 
-/// The number before the first space, and what stands behind the space.
-fn count_before(words: &[u8]) -> Option<(u64, &[u8])>
-    ensures some { IfSome result (λ found. HasFirst words.now found.0 found.1.now) }
-    ensures exact { (n : ℕ) (rest : List ℕ) → HasFirst words.now n rest →
-        MatchOption result ⊥ (λ found. (found.0 ≡ n) × (found.1.now ≡ rest)) }
+/// Returns `true` if the reply says that as many links come in and go out as are needed.
+pub fn is_ready(reply: &[u8]) -> bool
+    ensures { IsTrue result ↔ IsReady reply.now }
 {
-    let (first, rest) = split_at_space(words)?;
-    Some((count(first)?, rest))
-}
-
-/// The links that the words write.
-fn four_counts(words: &[u8]) -> Option<Links>
-    ensures some { IfSome result (AreFour words.now) }
-    ensures exact { (links : Links) → AreFour words.now links → result ≡ Some links }
-{
-    let (coming, rest) = count_before(words)?;
-    let (going, rest) = count_before(rest)?;
-    let (members, needed) = two_counts(rest)?;
-    Some(Links {
-        coming,
-        going,
-        members,
-        needed,
-    })
-}
-
-/// The links that the reply says, where it is `LINKS i o n w`.
-pub(crate) fn links_of(reply: &[u8]) -> Option<Links>
-    ensures some { IfSome result (HasLinks reply.now) }
-    ensures exact { (links : Links) → HasLinks reply.now links → result ≡ Some links }
-{
-    match behind(reply, "LINKS ") {
-        Some(words) => four_counts(words),
-        None => None,
+    match links_of(reply) {
+        Some(links) => are_enough(&links),
+        None => false,
     }
-}
-
-/// Returns `true` if the reply is `LINKS i o n w`.
-pub(crate) fn has_links(reply: &[u8]) -> bool
-    ensures { IsTrue result ↔ IsLinks reply.now }
-{
-    links_of(reply).is_some()
 }
 
 /// Returns `true` if as many links come in and go out as are needed.
@@ -112,13 +50,98 @@ fn are_enough(links: &Links) -> bool
     links.needed <= links.coming && links.needed <= links.going
 }
 
-/// Returns `true` if the reply says that as many links come in and go out as are needed.
-pub fn is_ready(reply: &[u8]) -> bool
-    ensures { IsTrue result ↔ IsReady reply.now }
+/// The object that says the same as the reply; none where the line is no reply.
+pub fn object_of(alloc: Global, reply: &[u8]) -> Result<Option<String>, AllocError>
+    ensures some { IfOk result
+        (λ found. IfSome found (λ text. SaysSame reply.now (string_bytes text))) }
+    ensures none { IfOk result (λ found. IsNone found → IsReplyLine reply.now → ⊥) }
 {
     match links_of(reply) {
-        Some(links) => are_enough(&links),
-        None => false,
+        Some(links) => Ok(Some(links_object(alloc, &links)?)),
+        None => unlinked_object(alloc, reply),
+    }
+}
+
+/// The object of `LINKS i o n w`.
+fn links_object(alloc: Global, links: &Links) -> Result<String, AllocError>
+    ensures { IfOk result (λ text. string_bytes text ≡ links_object links.now) }
+{
+    let coming = links.coming;
+    let going = links.going;
+    let members = links.members;
+    let needed = links.needed;
+    format!(in alloc;
+        "{{\"state\":\"links\",\"in\":{coming},\"out\":{going},\"members\":{members},\"needed\":{needed}}}"
+    )
+}
+
+/// The object that says the same as a reply that isn't of links; none where the line is no such
+/// reply.
+fn unlinked_object(alloc: Global, reply: &[u8]) -> Result<Option<String>, AllocError>
+    ensures some { IfOk result
+        (λ found. IfSome found (λ text. SaysUnlinked reply.now (string_bytes text))) }
+    ensures none { IfOk result (λ found. IsNone found → IsUnlinked reply.now → ⊥) }
+{
+    match stage_object_of(alloc, reply)? {
+        Some(text) => Ok(Some(text)),
+        None => plain_object(alloc, reply),
+    }
+}
+
+/// The object that says the same as a reply that isn't of links and none to `STATE`; none where the
+/// line is no such reply.
+fn plain_object(alloc: Global, reply: &[u8]) -> Result<Option<String>, AllocError>
+    ensures some { IfOk result
+        (λ found. IfSome found (λ text. SaysPlain reply.now (string_bytes text))) }
+    ensures none { IfOk result (λ found. IsNone found → IsPlainReply reply.now → ⊥) }
+{
+    if let Some(object) = fixed_object(reply) {
+        return Ok(Some(String::from_str(alloc, object)?));
+    }
+    match counts(reply) {
+        Some((statements, decided)) => Ok(Some(up_object(alloc, statements, decided)?)),
+        None => Ok(None),
+    }
+}
+
+/// The object of `UP m d`.
+fn up_object(alloc: Global, statements: u64, decided: u64) -> Result<String, AllocError>
+    ensures { IfOk result (λ text. string_bytes text ≡ up_object statements decided) }
+{
+    format!(in alloc; "{{\"up\":true,\"statements\":{statements},\"decided\":{decided}}}")
+}
+
+/// Returns `true` if the line is a reply of a desk.
+pub fn is_reply(line: &[u8]) -> bool
+    ensures { IsTrue result ↔ IsReplyLine line.now }
+{
+    is_unlinked(line) || has_links(line)
+}
+
+/// Tells if the line is a reply of a desk that isn't of links.
+fn is_unlinked(line: &[u8]) -> bool
+    ensures { IsTrue result ↔ IsUnlinked line.now }
+{
+    is_plain_reply(line) || is_stage(line)
+}
+
+/// Tells if the line is a reply of a desk that isn't of links and none to `STATE`.
+fn is_plain_reply(line: &[u8]) -> bool
+    ensures { IsTrue result ↔ IsPlainReply line.now }
+{
+    let fixed = fixed_object(line);
+    let found = counts(line);
+    fixed.is_some() | found.is_some()
+}
+
+/// The object of a reply that has no numbers but bits and codes.
+fn fixed_object(reply: &[u8]) -> Option<&'static str>
+    ensures some { IfSome result (λ object. SaysFixed reply.now object.now) }
+    ensures none { IsNone result → (object : List ℕ) → SaysFixed reply.now object → ⊥ }
+{
+    match good_object(reply) {
+        Some(object) => Some(object),
+        None => other_object(reply),
     }
 }
 
@@ -168,97 +191,74 @@ fn other_object(reply: &[u8]) -> Option<&'static str>
     }
 }
 
-/// The object of a reply that has no numbers but bits and codes.
-fn fixed_object(reply: &[u8]) -> Option<&'static str>
-    ensures some { IfSome result (λ object. SaysFixed reply.now object.now) }
-    ensures none { IsNone result → (object : List ℕ) → SaysFixed reply.now object → ⊥ }
+/// Returns `true` if the reply is `LINKS i o n w`.
+pub(crate) fn has_links(reply: &[u8]) -> bool
+    ensures { IsTrue result ↔ IsLinks reply.now }
 {
-    match good_object(reply) {
-        Some(object) => Some(object),
-        None => other_object(reply),
+    links_of(reply).is_some()
+}
+
+/// The links that the reply says, where it is `LINKS i o n w`.
+pub(crate) fn links_of(reply: &[u8]) -> Option<Links>
+    ensures some { IfSome result (HasLinks reply.now) }
+    ensures exact { (links : Links) → HasLinks reply.now links → result ≡ Some links }
+{
+    match behind(reply, "LINKS ") {
+        Some(words) => four_counts(words),
+        None => None,
     }
 }
 
-/// The object of `UP m d`.
-fn up_object(alloc: Global, statements: u64, decided: u64) -> Result<String, AllocError>
-    ensures { IfOk result (λ text. string_bytes text ≡ up_object statements decided) }
+/// The links that the words write.
+fn four_counts(words: &[u8]) -> Option<Links>
+    ensures some { IfSome result (AreFour words.now) }
+    ensures exact { (links : Links) → AreFour words.now links → result ≡ Some links }
 {
-    format!(in alloc; "{{\"up\":true,\"statements\":{statements},\"decided\":{decided}}}")
+    let (coming, rest) = count_before(words)?;
+    let (going, rest) = count_before(rest)?;
+    let (members, needed) = two_counts(rest)?;
+    Some(Links {
+        coming,
+        going,
+        members,
+        needed,
+    })
 }
 
-/// The object that says the same as a reply that isn't of links and none to `STATE`; none where the
-/// line is no such reply.
-fn plain_object(alloc: Global, reply: &[u8]) -> Result<Option<String>, AllocError>
-    ensures some { IfOk result
-        (λ found. IfSome found (λ text. SaysPlain reply.now (string_bytes text))) }
-    ensures none { IfOk result (λ found. IsNone found → IsPlainReply reply.now → ⊥) }
+/// The number before the first space, and what stands behind the space.
+fn count_before(words: &[u8]) -> Option<(u64, &[u8])>
+    ensures some { IfSome result (λ found. HasFirst words.now found.0 found.1.now) }
+    ensures exact { (n : ℕ) (rest : List ℕ) → HasFirst words.now n rest →
+        MatchOption result ⊥ (λ found. (found.0 ≡ n) × (found.1.now ≡ rest)) }
 {
-    if let Some(object) = fixed_object(reply) {
-        return Ok(Some(String::from_str(alloc, object)?));
+    let (first, rest) = split_at_space(words)?;
+    Some((count(first)?, rest))
+}
+
+/// The two numbers that the words write.
+pub(crate) fn two_counts(words: &[u8]) -> Option<(u64, u64)>
+    ensures some { IfSome result (λ found. AreCounts words.now found.0 found.1) }
+    ensures exact { (m d : ℕ) → AreCounts words.now m d → result ≡ Some (m, d) }
+{
+    let Some((first, second)) = split_at_space(words) else {
+        return None;
+    };
+    let Some(statements) = count(first) else {
+        return None;
+    };
+    let Some(decided) = count(second) else {
+        return None;
+    };
+    Some((statements, decided))
+}
+
+/// The number that a word of a reply writes: no digit stands before it that could be left out.
+fn count(word: &[u8]) -> Option<u64>
+    ensures some { IfSome result (IsCount word.now) }
+    ensures exact { (n : ℕ) → IsCount word.now n → result ≡ Some n }
+{
+    if word.len() > 1 && word[0] == b'0' {
+        return None;
     }
-    match counts(reply) {
-        Some((statements, decided)) => Ok(Some(up_object(alloc, statements, decided)?)),
-        None => Ok(None),
-    }
-}
-
-/// The object of `LINKS i o n w`.
-fn links_object(alloc: Global, links: &Links) -> Result<String, AllocError>
-    ensures { IfOk result (λ text. string_bytes text ≡ links_object links.now) }
-{
-    let coming = links.coming;
-    let going = links.going;
-    let members = links.members;
-    let needed = links.needed;
-    format!(in alloc;
-        "{{\"state\":\"links\",\"in\":{coming},\"out\":{going},\"members\":{members},\"needed\":{needed}}}"
-    )
-}
-
-/// The object that says the same as a reply that isn't of links; none where the line is no such
-/// reply.
-fn unlinked_object(alloc: Global, reply: &[u8]) -> Result<Option<String>, AllocError>
-    ensures some { IfOk result
-        (λ found. IfSome found (λ text. SaysUnlinked reply.now (string_bytes text))) }
-    ensures none { IfOk result (λ found. IsNone found → IsUnlinked reply.now → ⊥) }
-{
-    match stage_object_of(alloc, reply)? {
-        Some(text) => Ok(Some(text)),
-        None => plain_object(alloc, reply),
-    }
-}
-
-/// The object that says the same as the reply; none where the line is no reply.
-pub fn object_of(alloc: Global, reply: &[u8]) -> Result<Option<String>, AllocError>
-    ensures some { IfOk result
-        (λ found. IfSome found (λ text. SaysSame reply.now (string_bytes text))) }
-    ensures none { IfOk result (λ found. IsNone found → IsReplyLine reply.now → ⊥) }
-{
-    match links_of(reply) {
-        Some(links) => Ok(Some(links_object(alloc, &links)?)),
-        None => unlinked_object(alloc, reply),
-    }
-}
-
-/// Tells if the line is a reply of a desk that isn't of links and none to `STATE`.
-fn is_plain_reply(line: &[u8]) -> bool
-    ensures { IsTrue result ↔ IsPlainReply line.now }
-{
-    let fixed = fixed_object(line);
-    let found = counts(line);
-    fixed.is_some() | found.is_some()
-}
-
-/// Tells if the line is a reply of a desk that isn't of links.
-fn is_unlinked(line: &[u8]) -> bool
-    ensures { IsTrue result ↔ IsUnlinked line.now }
-{
-    is_plain_reply(line) || is_stage(line)
-}
-
-/// Returns `true` if the line is a reply of a desk.
-pub fn is_reply(line: &[u8]) -> bool
-    ensures { IsTrue result ↔ IsReplyLine line.now }
-{
-    is_unlinked(line) || has_links(line)
+    number(word)
 }

@@ -65,78 +65,6 @@ pub struct ScriptPages<'a> {
     pub paths: PagePaths<'a>,
 }
 
-/// Returns `true` if a page has a path.
-fn has_pages(paths: &PagePaths<'_>) -> bool
-    ensures { result ≡ wants_pages paths.now }
-{
-    paths.trace.is_some() || paths.chart.is_some() || paths.play.is_some()
-}
-
-/// Returns `true` if a page takes the standard output.
-fn takes_any(paths: &PagePaths<'_>) -> bool
-    ensures { IsTrue result ↔ TakesOutput paths.now }
-{
-    is_output(paths.trace) || is_output(paths.chart) || is_output(paths.play)
-}
-
-/// Runs the script over empty disks in memory, and puts its pages on the shelf. The text of its
-/// outcome comes out.
-fn put_pages<S: Shelf>(
-    alloc: Global,
-    text: &[u8],
-    shelf: &mut S,
-) -> Result<String, SimulationEnd<S::Fault>>
-    ensures all { IfOk result
-        (λ made. (simulation : Simulation) × IsScript text.now simulation.script
-        × IsOutcome simulation.script simulation.outcome × S.has simulation shelf.new
-        × (string_bytes made ≡ simulation_text simulation.outcome)) }
-    ensures script { (fault : SimulateFault) → result ≡ Err (ends.Script fault) →
-        IsOfSimulate text.now fault }
-    ensures unput { (fault : SimulateFault) → result ≡ Err (ends.Script fault) →
-        shelf.new ≡ shelf.old }
-    ensures no_printing { (fault : SimulateFault) → result ≢ Err (ends.Printing fault) }
-{
-    let simulation = match Simulation::run(alloc, text) {
-        Ok(simulation) => simulation,
-        Err(fault) => return Err(SimulationEnd::Script(fault)),
-    };
-    let Ok(verdicts) = simulation.verdicts(alloc) else {
-        return Err(SimulationEnd::Script(SimulateFault::Memory));
-    };
-    match shelf.put(alloc, &simulation) {
-        Ok(()) => Ok(verdicts),
-        Err(fault) => Err(SimulationEnd::Page(fault)),
-    }
-}
-
-/// The text of a simulation's outcome, once its pages are put where any is wanted. Where none is,
-/// the events are played as they are read, and nothing of them is kept but their counts.
-fn play<S: Shelf>(
-    alloc: Global,
-    text: &[u8],
-    has_pages: bool,
-    shelf: &mut S,
-) -> Result<String, SimulationEnd<S::Fault>>
-    ensures all { IfOk result
-        (λ made. (simulation : Simulation) × IsScript text.now simulation.script
-        × IsOutcome simulation.script simulation.outcome
-        × (has_pages ≡ true → S.has simulation shelf.new)
-        × (string_bytes made ≡ simulation_text simulation.outcome)) }
-    ensures script { (fault : SimulateFault) → result ≡ Err (ends.Script fault) →
-        IsOfSimulate text.now fault }
-    ensures unput { (fault : SimulateFault) → result ≡ Err (ends.Script fault) →
-        shelf.new ≡ shelf.old }
-    ensures no_printing { (fault : SimulateFault) → result ≢ Err (ends.Printing fault) }
-{
-    if has_pages {
-        return put_pages(alloc, text, shelf);
-    }
-    match counted_text(alloc, text) {
-        Ok(verdicts) => Ok(verdicts),
-        Err(fault) => Err(SimulationEnd::Script(fault)),
-    }
-}
-
 /// Runs the script over empty disks in memory, puts its pages on the shelf if one has a path, and
 /// only then prints its outcome as [`crate::simulate_text`] does: to the output, or aside, where
 /// the path of a page is `-`. The status is 0.
@@ -183,4 +111,76 @@ pub fn show_simulation<S: Shelf, W: Write, E: Write>(
         Ok(status) => Ok(status),
         Err(fault) => Err(SimulationEnd::Printing(fault)),
     }
+}
+
+/// The text of a simulation's outcome, once its pages are put where any is wanted. Where none is,
+/// the events are played as they are read, and nothing of them is kept but their counts.
+fn play<S: Shelf>(
+    alloc: Global,
+    text: &[u8],
+    has_pages: bool,
+    shelf: &mut S,
+) -> Result<String, SimulationEnd<S::Fault>>
+    ensures all { IfOk result
+        (λ made. (simulation : Simulation) × IsScript text.now simulation.script
+        × IsOutcome simulation.script simulation.outcome
+        × (has_pages ≡ true → S.has simulation shelf.new)
+        × (string_bytes made ≡ simulation_text simulation.outcome)) }
+    ensures script { (fault : SimulateFault) → result ≡ Err (ends.Script fault) →
+        IsOfSimulate text.now fault }
+    ensures unput { (fault : SimulateFault) → result ≡ Err (ends.Script fault) →
+        shelf.new ≡ shelf.old }
+    ensures no_printing { (fault : SimulateFault) → result ≢ Err (ends.Printing fault) }
+{
+    if has_pages {
+        return put_pages(alloc, text, shelf);
+    }
+    match counted_text(alloc, text) {
+        Ok(verdicts) => Ok(verdicts),
+        Err(fault) => Err(SimulationEnd::Script(fault)),
+    }
+}
+
+/// Returns `true` if a page has a path.
+fn has_pages(paths: &PagePaths<'_>) -> bool
+    ensures { result ≡ wants_pages paths.now }
+{
+    paths.trace.is_some() || paths.chart.is_some() || paths.play.is_some()
+}
+
+/// Runs the script over empty disks in memory, and puts its pages on the shelf. The text of its
+/// outcome comes out.
+fn put_pages<S: Shelf>(
+    alloc: Global,
+    text: &[u8],
+    shelf: &mut S,
+) -> Result<String, SimulationEnd<S::Fault>>
+    ensures all { IfOk result
+        (λ made. (simulation : Simulation) × IsScript text.now simulation.script
+        × IsOutcome simulation.script simulation.outcome × S.has simulation shelf.new
+        × (string_bytes made ≡ simulation_text simulation.outcome)) }
+    ensures script { (fault : SimulateFault) → result ≡ Err (ends.Script fault) →
+        IsOfSimulate text.now fault }
+    ensures unput { (fault : SimulateFault) → result ≡ Err (ends.Script fault) →
+        shelf.new ≡ shelf.old }
+    ensures no_printing { (fault : SimulateFault) → result ≢ Err (ends.Printing fault) }
+{
+    let simulation = match Simulation::run(alloc, text) {
+        Ok(simulation) => simulation,
+        Err(fault) => return Err(SimulationEnd::Script(fault)),
+    };
+    let Ok(verdicts) = simulation.verdicts(alloc) else {
+        return Err(SimulationEnd::Script(SimulateFault::Memory));
+    };
+    match shelf.put(alloc, &simulation) {
+        Ok(()) => Ok(verdicts),
+        Err(fault) => Err(SimulationEnd::Page(fault)),
+    }
+}
+
+/// Returns `true` if a page takes the standard output.
+fn takes_any(paths: &PagePaths<'_>) -> bool
+    ensures { IsTrue result ↔ TakesOutput paths.now }
+{
+    is_output(paths.trace) || is_output(paths.chart) || is_output(paths.play)
 }

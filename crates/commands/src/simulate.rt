@@ -28,156 +28,6 @@ use std::alloc::{AllocError, Global};
 use std::io::{self, Write};
 use terms::{Memory, Size};
 
-/// The numbers of events that were played, and that were skipped.
-#[derive(Clone, Copy)]
-struct EventCounts {
-    events: usize,
-    skipped: usize,
-}
-
-/// The line of a verdict: member, question, round and bit.
-fn verdict_line(alloc: Global, verdict: &(u8, u16, u8, bool)) -> Result<String, AllocError>
-    ensures { IfOk result (λ text. string_bytes text ≡ verdict_line verdict.now) }
-{
-    let (member, question, round, bit) = *verdict;
-    format!(in alloc;
-        "member {member} question {question} round {round} bit {}\n",
-        u8::from(bit)
-    )
-}
-
-/// Returns how many of the marks are of events that were skipped.
-fn skipped(marks: &[Mark]) -> usize
-    ensures { result ≡ skipped marks.now }
-{
-    let mut count = 0;
-    for mark in marks {
-        count += usize::from(is_skipped(mark));
-    }
-    count
-}
-
-/// The line of so many events, of which so many were skipped.
-fn count_line(alloc: Global, counts: EventCounts) -> Result<String, AllocError>
-    ensures { IfOk result
-        (λ text. string_bytes text ≡ line_of_counts counts.events counts.skipped) }
-{
-    let EventCounts { events, skipped } = counts;
-    format!(in alloc; "events {events} skipped {skipped}\n")
-}
-
-/// The lines of the verdicts.
-fn verdict_lines(alloc: Global, verdicts: &[(u8, u16, u8, bool)]) -> Result<String, AllocError>
-    ensures { IfOk result (λ text. string_bytes text ≡ flat_map verdict_line verdicts.now) }
-{
-    let mut text = String::new(alloc);
-    for verdict in verdicts {
-        text.push_str(verdict_line(alloc, verdict)?.as_str())?;
-    }
-    Ok(text)
-}
-
-/// The text of an outcome: a line for each verdict, and one that counts the events.
-fn outcome_text(
-    alloc: Global,
-    verdicts: &[(u8, u16, u8, bool)],
-    counts: EventCounts,
-) -> Result<String, AllocError>
-    ensures { IfOk result
-        (λ text. string_bytes text ≡ flat_map verdict_line verdicts.now
-        ++ line_of_counts counts.events counts.skipped) }
-{
-    let mut text = verdict_lines(alloc, verdicts)?;
-    text.push_str(count_line(alloc, counts)?.as_str())?;
-    Ok(text)
-}
-
-/// An empty disk for each member, without a fuse.
-fn empty_disks(alloc: Global, size: Size) -> Result<Vec<MemDisk>, Memory>
-    ensures empty { IfOk result (λ disks. AreDisks size disks.items) }
-    ensures no_fuse { IfOk result (λ disks. (p : ℕ) → fused_in disks.items p ≡ false) }
-{
-    let mut disks = Vec::new(alloc);
-    for _ in 0..size.n() {
-        disks.push(MemDisk::new(alloc))?;
-    }
-    Ok(disks)
-}
-
-/// Plays events one after another, and counts them.
-fn play_batch(
-    alloc: Global,
-    cluster: &mut Cluster,
-    events: &[Event],
-    counts: EventCounts,
-) -> Result<EventCounts, SimFault>
-    requires room { counts.events + length events.now ≤ MOST_EVENTS }
-    requires fewer { counts.skipped ≤ counts.events }
-    ensures room { IfOk result (λ now. now.events ≡ counts.events + length events.now) }
-    ensures fewer { IfOk result (λ now. now.skipped ≤ now.events) }
-    ensures counted { (size : Size) (liars : List ℕ) (all left : List TossedAct) →
-        CountsPlayed size liars all (map tossed_act events.now ++ left) cluster.old counts.events
-        counts.skipped → IfOk result (λ now. CountsPlayed size liars all left cluster.new now.events
-        now.skipped) }
-    ensures memory { (size : Size) (liars : List ℕ) (all left : List TossedAct) →
-        CountsPlayed size liars all (map tossed_act events.now ++ left) cluster.old counts.events
-        counts.skipped → IfErr result (λ fault. fault ≡ SimFault.Memory) }
-{
-    let mut played = counts.events;
-    let mut skipped = counts.skipped;
-    for event in events {
-        let mark = cluster.play(alloc, event)?;
-        played += 1;
-        skipped += usize::from(is_skipped(&mark));
-    }
-    Ok(EventCounts {
-        events: played,
-        skipped,
-    })
-}
-
-/// Plays a script's events as they are made, and counts them. It keeps no more of them than the
-/// source has at a time.
-fn play_all(
-    alloc: Global,
-    source: &mut Source,
-    cluster: &mut Cluster,
-) -> Result<EventCounts, SimulateFault>
-    requires few { length source.old.left ≤ MOST_EVENTS }
-    ensures counted { (size : Size) (liars : List ℕ) →
-        ClusterStandsFor (unplayed size (among liars) (λ p. false)) cluster.old →
-        IfOk result (λ counts. CountsPlayed size liars source.old.left [] cluster.new counts.events
-        counts.skipped) }
-    ensures memory { (size : Size) (liars : List ℕ) →
-        ClusterStandsFor (unplayed size (among liars) (λ p. false)) cluster.old →
-        IfErr result (λ fault. fault ≡ SimulateFault.Memory) }
-{
-    let mut counts = EventCounts {
-        events: 0,
-        skipped: 0,
-    };
-    'batches: while source.more(alloc)? {
-        counts = play_batch(alloc, cluster, source.batch(), counts)?;
-    }
-    Ok(counts)
-}
-
-/// Plays the script over empty disks in memory, keeps nothing of its events but their counts, and
-/// makes the text of its outcome. The faults are those of [`Simulation::run`].
-pub(crate) fn counted_text(alloc: Global, text: &[u8]) -> Result<String, SimulateFault>
-    ensures all { IfOk result
-        (λ made. (script : Script) × (outcome : Outcome) × IsScript text.now script
-        × IsOutcome script outcome × (string_bytes made ≡ simulation_text outcome)) }
-    ensures only { IfErr result (IsOfSimulate text.now) }
-{
-    let mut source = Source::of(alloc, text)?;
-    let disks = empty_disks(alloc, source.size())?;
-    let mut cluster = Cluster::open(alloc, source.size(), source.liars(), disks)?;
-    let counts = play_all(alloc, &mut source, &mut cluster)?;
-    let verdicts = cluster.verdicts(alloc)?;
-    Ok(outcome_text(alloc, &verdicts, counts)?)
-}
-
 /// A script that was run over empty disks in memory, and what came of it.
 #[derive(Drop)]
 pub struct Simulation {
@@ -324,14 +174,154 @@ pub fn simulate_text<W: Write>(
     print(verdicts.as_str(), output)
 }
 
-/// Returns `true` if the path is `-`, which stands for the standard output.
-pub(crate) fn is_output(path: Option<&str>) -> bool
-    ensures { IsTrue result ↔ (option_map (λ text. text.now) path.entry ≡ Some (codes "-")) }
+/// Plays the script over empty disks in memory, keeps nothing of its events but their counts, and
+/// makes the text of its outcome. The faults are those of [`Simulation::run`].
+pub(crate) fn counted_text(alloc: Global, text: &[u8]) -> Result<String, SimulateFault>
+    ensures all { IfOk result
+        (λ made. (script : Script) × (outcome : Outcome) × IsScript text.now script
+        × IsOutcome script outcome × (string_bytes made ≡ simulation_text outcome)) }
+    ensures only { IfErr result (IsOfSimulate text.now) }
 {
-    match path {
-        Some(path) => is(path.as_bytes(), "-"),
-        None => false,
+    let mut source = Source::of(alloc, text)?;
+    let disks = empty_disks(alloc, source.size())?;
+    let mut cluster = Cluster::open(alloc, source.size(), source.liars(), disks)?;
+    let counts = play_all(alloc, &mut source, &mut cluster)?;
+    let verdicts = cluster.verdicts(alloc)?;
+    Ok(outcome_text(alloc, &verdicts, counts)?)
+}
+
+/// An empty disk for each member, without a fuse.
+fn empty_disks(alloc: Global, size: Size) -> Result<Vec<MemDisk>, Memory>
+    ensures empty { IfOk result (λ disks. AreDisks size disks.items) }
+    ensures no_fuse { IfOk result (λ disks. (p : ℕ) → fused_in disks.items p ≡ false) }
+{
+    let mut disks = Vec::new(alloc);
+    for _ in 0..size.n() {
+        disks.push(MemDisk::new(alloc))?;
     }
+    Ok(disks)
+}
+
+/// Plays a script's events as they are made, and counts them. It keeps no more of them than the
+/// source has at a time.
+fn play_all(
+    alloc: Global,
+    source: &mut Source,
+    cluster: &mut Cluster,
+) -> Result<EventCounts, SimulateFault>
+    requires few { length source.old.left ≤ MOST_EVENTS }
+    ensures counted { (size : Size) (liars : List ℕ) →
+        ClusterStandsFor (unplayed size (among liars) (λ p. false)) cluster.old →
+        IfOk result (λ counts. CountsPlayed size liars source.old.left [] cluster.new counts.events
+        counts.skipped) }
+    ensures memory { (size : Size) (liars : List ℕ) →
+        ClusterStandsFor (unplayed size (among liars) (λ p. false)) cluster.old →
+        IfErr result (λ fault. fault ≡ SimulateFault.Memory) }
+{
+    let mut counts = EventCounts {
+        events: 0,
+        skipped: 0,
+    };
+    'batches: while source.more(alloc)? {
+        counts = play_batch(alloc, cluster, source.batch(), counts)?;
+    }
+    Ok(counts)
+}
+
+/// Plays events one after another, and counts them.
+fn play_batch(
+    alloc: Global,
+    cluster: &mut Cluster,
+    events: &[Event],
+    counts: EventCounts,
+) -> Result<EventCounts, SimFault>
+    requires room { counts.events + length events.now ≤ MOST_EVENTS }
+    requires fewer { counts.skipped ≤ counts.events }
+    ensures room { IfOk result (λ now. now.events ≡ counts.events + length events.now) }
+    ensures fewer { IfOk result (λ now. now.skipped ≤ now.events) }
+    ensures counted { (size : Size) (liars : List ℕ) (all left : List TossedAct) →
+        CountsPlayed size liars all (map tossed_act events.now ++ left) cluster.old counts.events
+        counts.skipped → IfOk result (λ now. CountsPlayed size liars all left cluster.new now.events
+        now.skipped) }
+    ensures memory { (size : Size) (liars : List ℕ) (all left : List TossedAct) →
+        CountsPlayed size liars all (map tossed_act events.now ++ left) cluster.old counts.events
+        counts.skipped → IfErr result (λ fault. fault ≡ SimFault.Memory) }
+{
+    let mut played = counts.events;
+    let mut skipped = counts.skipped;
+    for event in events {
+        let mark = cluster.play(alloc, event)?;
+        played += 1;
+        skipped += usize::from(is_skipped(&mark));
+    }
+    Ok(EventCounts {
+        events: played,
+        skipped,
+    })
+}
+
+/// The text of an outcome: a line for each verdict, and one that counts the events.
+fn outcome_text(
+    alloc: Global,
+    verdicts: &[(u8, u16, u8, bool)],
+    counts: EventCounts,
+) -> Result<String, AllocError>
+    ensures { IfOk result
+        (λ text. string_bytes text ≡ flat_map verdict_line verdicts.now
+        ++ line_of_counts counts.events counts.skipped) }
+{
+    let mut text = verdict_lines(alloc, verdicts)?;
+    text.push_str(count_line(alloc, counts)?.as_str())?;
+    Ok(text)
+}
+
+/// The lines of the verdicts.
+fn verdict_lines(alloc: Global, verdicts: &[(u8, u16, u8, bool)]) -> Result<String, AllocError>
+    ensures { IfOk result (λ text. string_bytes text ≡ flat_map verdict_line verdicts.now) }
+{
+    let mut text = String::new(alloc);
+    for verdict in verdicts {
+        text.push_str(verdict_line(alloc, verdict)?.as_str())?;
+    }
+    Ok(text)
+}
+
+/// The line of a verdict: member, question, round and bit.
+fn verdict_line(alloc: Global, verdict: &(u8, u16, u8, bool)) -> Result<String, AllocError>
+    ensures { IfOk result (λ text. string_bytes text ≡ verdict_line verdict.now) }
+{
+    let (member, question, round, bit) = *verdict;
+    format!(in alloc;
+        "member {member} question {question} round {round} bit {}\n",
+        u8::from(bit)
+    )
+}
+
+/// The line of so many events, of which so many were skipped.
+fn count_line(alloc: Global, counts: EventCounts) -> Result<String, AllocError>
+    ensures { IfOk result
+        (λ text. string_bytes text ≡ line_of_counts counts.events counts.skipped) }
+{
+    let EventCounts { events, skipped } = counts;
+    format!(in alloc; "events {events} skipped {skipped}\n")
+}
+
+/// The numbers of events that were played, and that were skipped.
+#[derive(Clone, Copy)]
+struct EventCounts {
+    events: usize,
+    skipped: usize,
+}
+
+/// Returns how many of the marks are of events that were skipped.
+fn skipped(marks: &[Mark]) -> usize
+    ensures { result ≡ skipped marks.now }
+{
+    let mut count = 0;
+    for mark in marks {
+        count += usize::from(is_skipped(mark));
+    }
+    count
 }
 
 /// Returns `true` if a page takes the standard output: the path of one is `-`.
@@ -341,6 +331,16 @@ pub fn takes_output(trace: Option<&str>, chart: Option<&str>) -> bool
         ⊎ (option_map (λ text. text.now) chart.entry ≡ Some (codes "-"))) }
 {
     is_output(trace) || is_output(chart)
+}
+
+/// Returns `true` if the path is `-`, which stands for the standard output.
+pub(crate) fn is_output(path: Option<&str>) -> bool
+    ensures { IsTrue result ↔ (option_map (λ text. text.now) path.entry ≡ Some (codes "-")) }
+{
+    match path {
+        Some(path) => is(path.as_bytes(), "-"),
+        None => false,
+    }
 }
 
 /// Writes the verdicts to the output, or aside, where a page takes the output. The status is 0, and

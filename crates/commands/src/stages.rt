@@ -25,11 +25,53 @@ pub enum Stage {
     },
 }
 
-/// Returns `true` if these are a round and a step of it.
-fn is_round_and_step(round: u64, step: u64) -> bool
-    ensures { IsTrue result ↔ IsRoundAndStep round step }
+/// Returns `true` if the reply is one to `STATE` without a decision.
+pub(crate) fn is_stage(reply: &[u8]) -> bool
+    ensures { IsTrue result ↔ IsStage reply.now }
 {
-    1 <= round && round <= 32 && 1 <= step && step <= 3
+    stage_of(reply).is_some()
+}
+
+/// Returns the object that says the same as a reply to `STATE` without a decision; none for any
+/// other reply.
+pub(crate) fn stage_object_of(alloc: Global, reply: &[u8]) -> Result<Option<String>, AllocError>
+    ensures some { IfOk result
+        (λ found. IfSome found (λ text. SaysStageSame reply.now (string_bytes text))) }
+    ensures none { IfOk result (λ found. IsNone found → IsStage reply.now → ⊥) }
+{
+    match stage_of(reply) {
+        Some(stage) => Ok(Some(stage_object(alloc, stage)?)),
+        None => Ok(None),
+    }
+}
+
+/// Returns the stage that the reply says, if it is one to `STATE` without a decision.
+fn stage_of(reply: &[u8]) -> Option<Stage>
+    ensures some { IfSome result (SaysStage reply.now) }
+    ensures exact { (stage : Stage) → SaysStage reply.now stage → result ≡ Some stage }
+{
+    if is(reply, "UNPROPOSED") {
+        return Some(Stage::Unproposed);
+    }
+    if is(reply, "SPENT") {
+        return Some(Stage::Spent);
+    }
+    open_stage(reply)
+}
+
+/// Returns the stage that the reply says, if it is `OPEN r s`.
+fn open_stage(reply: &[u8]) -> Option<Stage>
+    ensures some { IfSome result (SaysStage reply.now) }
+    ensures exact { (round step : ℕ) → SaysStage reply.now (Open round step) →
+        result ≡ Some (Open round step) }
+{
+    match behind(reply, "OPEN ") {
+        Some(words) => match round_and_step(words) {
+            Some((round, step)) => Some(Stage::Open { round, step }),
+            None => None,
+        },
+        None => None,
+    }
 }
 
 /// Returns the round and the step that the words write.
@@ -50,40 +92,11 @@ fn round_and_step(words: &[u8]) -> Option<(u64, u64)>
     }
 }
 
-/// Returns the stage that the reply says, if it is `OPEN r s`.
-fn open_stage(reply: &[u8]) -> Option<Stage>
-    ensures some { IfSome result (SaysStage reply.now) }
-    ensures exact { (round step : ℕ) → SaysStage reply.now (Open round step) →
-        result ≡ Some (Open round step) }
+/// Returns `true` if these are a round and a step of it.
+fn is_round_and_step(round: u64, step: u64) -> bool
+    ensures { IsTrue result ↔ IsRoundAndStep round step }
 {
-    match behind(reply, "OPEN ") {
-        Some(words) => match round_and_step(words) {
-            Some((round, step)) => Some(Stage::Open { round, step }),
-            None => None,
-        },
-        None => None,
-    }
-}
-
-/// Returns the stage that the reply says, if it is one to `STATE` without a decision.
-fn stage_of(reply: &[u8]) -> Option<Stage>
-    ensures some { IfSome result (SaysStage reply.now) }
-    ensures exact { (stage : Stage) → SaysStage reply.now stage → result ≡ Some stage }
-{
-    if is(reply, "UNPROPOSED") {
-        return Some(Stage::Unproposed);
-    }
-    if is(reply, "SPENT") {
-        return Some(Stage::Spent);
-    }
-    open_stage(reply)
-}
-
-/// Returns `true` if the reply is one to `STATE` without a decision.
-pub(crate) fn is_stage(reply: &[u8]) -> bool
-    ensures { IsTrue result ↔ IsStage reply.now }
-{
-    stage_of(reply).is_some()
+    1 <= round && round <= 32 && 1 <= step && step <= 3
 }
 
 /// Returns the object of a stage.
@@ -96,18 +109,5 @@ fn stage_object(alloc: Global, stage: Stage) -> Result<String, AllocError>
         Stage::Open { round, step } => {
             format!(in alloc; "{{\"open\":true,\"round\":{round},\"step\":{step}}}")
         }
-    }
-}
-
-/// Returns the object that says the same as a reply to `STATE` without a decision; none for any
-/// other reply.
-pub(crate) fn stage_object_of(alloc: Global, reply: &[u8]) -> Result<Option<String>, AllocError>
-    ensures some { IfOk result
-        (λ found. IfSome found (λ text. SaysStageSame reply.now (string_bytes text))) }
-    ensures none { IfOk result (λ found. IsNone found → IsStage reply.now → ⊥) }
-{
-    match stage_of(reply) {
-        Some(stage) => Ok(Some(stage_object(alloc, stage)?)),
-        None => Ok(None),
     }
 }

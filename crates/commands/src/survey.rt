@@ -36,11 +36,14 @@ pub enum Next {
     End,
 }
 
-/// Returns `true` if the reply is one of a member that takes part and tells no decision.
-fn takes_part(reply: &[u8]) -> bool
-    ensures { IsTrue result ↔ TakesPart reply.now }
+/// Returns the word that a reply of a desk is.
+pub fn word_of(reply: &[u8]) -> Word
+    ensures { IsWord reply.now result }
 {
-    is(reply, "UNDECIDED") || is(reply, "OK") || is(reply, "HAVE 0") || is(reply, "HAVE 1")
+    match decision_of(reply) {
+        Some(bit) => Word::Decided(bit),
+        None => undecided_word(reply),
+    }
 }
 
 /// Returns the word of a reply that tells no decision.
@@ -54,14 +57,11 @@ fn undecided_word(reply: &[u8]) -> Word
     }
 }
 
-/// Returns the word that a reply of a desk is.
-pub fn word_of(reply: &[u8]) -> Word
-    ensures { IsWord reply.now result }
+/// Returns `true` if the reply is one of a member that takes part and tells no decision.
+fn takes_part(reply: &[u8]) -> bool
+    ensures { IsTrue result ↔ TakesPart reply.now }
 {
-    match decision_of(reply) {
-        Some(bit) => Word::Decided(bit),
-        None => undecided_word(reply),
-    }
+    is(reply, "UNDECIDED") || is(reply, "OK") || is(reply, "HAVE 0") || is(reply, "HAVE 1")
 }
 
 /// Returns a member's word once it said another one: a decision that it told stays, since of each
@@ -73,14 +73,6 @@ pub fn later_word(word: Word, other: Word) -> Word
         Word::Decided(bit) => Word::Decided(bit),
         Word::Silent | Word::Undecided | Word::Other => other,
     }
-}
-
-/// The line after another reply: the one that waits, if the first line got it, since a member that
-/// is stopped still tells what it decided.
-fn next_of_other(first: bool) -> Next
-    ensures { result ≡ next_of_other first }
-{
-    if first { Next::Wait } else { Next::Begin }
 }
 
 /// Returns the line that a member is sent after its word, which is its reply to the first line or
@@ -96,40 +88,25 @@ pub fn next_of(word: Word, first: bool) -> Next
     }
 }
 
-/// The line of a member that says 0, if that isn't what is printed.
-fn zero_remark(alloc: Global, member: usize, decision: Option<bool>) -> Result<String, AllocError>
-    ensures { IfOk result (λ text. string_bytes text ≡ zero_remark member decision) }
+/// The line after another reply: the one that waits, if the first line got it, since a member that
+/// is stopped still tells what it decided.
+fn next_of_other(first: bool) -> Next
+    ensures { result ≡ next_of_other first }
 {
-    match decision {
-        Some(false) => Ok(String::new(alloc)),
-        Some(true) | None => format!(in alloc; "bracha: member {member} says 0\n"),
-    }
+    if first { Next::Wait } else { Next::Begin }
 }
 
-/// The line of a member that says 1, if that isn't what is printed.
-fn one_remark(alloc: Global, member: usize, decision: Option<bool>) -> Result<String, AllocError>
-    ensures { IfOk result (λ text. string_bytes text ≡ one_remark member decision) }
+/// Returns the lines that tell people which members, by number, said something else than the
+/// decision that is printed, or nothing.
+pub fn remarks(alloc: Global, words: &[Word], decision: Option<bool>) -> Result<String, AllocError>
+    ensures { IfOk result (λ text. string_bytes text ≡ remarks_from 0 words.now decision) }
 {
-    match decision {
-        Some(true) => Ok(String::new(alloc)),
-        Some(false) | None => format!(in alloc; "bracha: member {member} says 1\n"),
+    let mut text = String::new(alloc);
+    for member in 0..words.len() {
+        let line = remark(alloc, member, words[member], decision)?;
+        text.push_str(line.as_str())?;
     }
-}
-
-/// The line of a member that says this bit, if that isn't what is printed.
-fn bit_remark(
-    alloc: Global,
-    member: usize,
-    bit: bool,
-    decision: Option<bool>,
-) -> Result<String, AllocError>
-    ensures { IfOk result (λ text. string_bytes text ≡ bit_remark member bit decision) }
-{
-    if bit {
-        one_remark(alloc, member, decision)
-    } else {
-        zero_remark(alloc, member, decision)
-    }
+    Ok(text)
 }
 
 /// The line that tells people of a member's word, if it isn't what is printed; else nothing.
@@ -149,17 +126,66 @@ fn remark(
     }
 }
 
-/// Returns the lines that tell people which members, by number, said something else than the
-/// decision that is printed, or nothing.
-pub fn remarks(alloc: Global, words: &[Word], decision: Option<bool>) -> Result<String, AllocError>
-    ensures { IfOk result (λ text. string_bytes text ≡ remarks_from 0 words.now decision) }
+/// The line of a member that says this bit, if that isn't what is printed.
+fn bit_remark(
+    alloc: Global,
+    member: usize,
+    bit: bool,
+    decision: Option<bool>,
+) -> Result<String, AllocError>
+    ensures { IfOk result (λ text. string_bytes text ≡ bit_remark member bit decision) }
 {
-    let mut text = String::new(alloc);
-    for member in 0..words.len() {
-        let line = remark(alloc, member, words[member], decision)?;
-        text.push_str(line.as_str())?;
+    if bit {
+        one_remark(alloc, member, decision)
+    } else {
+        zero_remark(alloc, member, decision)
     }
-    Ok(text)
+}
+
+/// The line of a member that says 1, if that isn't what is printed.
+fn one_remark(alloc: Global, member: usize, decision: Option<bool>) -> Result<String, AllocError>
+    ensures { IfOk result (λ text. string_bytes text ≡ one_remark member decision) }
+{
+    match decision {
+        Some(true) => Ok(String::new(alloc)),
+        Some(false) | None => format!(in alloc; "bracha: member {member} says 1\n"),
+    }
+}
+
+/// The line of a member that says 0, if that isn't what is printed.
+fn zero_remark(alloc: Global, member: usize, decision: Option<bool>) -> Result<String, AllocError>
+    ensures { IfOk result (λ text. string_bytes text ≡ zero_remark member decision) }
+{
+    match decision {
+        Some(false) => Ok(String::new(alloc)),
+        Some(true) | None => format!(in alloc; "bracha: member {member} says 0\n"),
+    }
+}
+
+/// Writes the decision that may be believed, or that there is none, as a line or as an object of
+/// JSON. The status is 0 for a decision, and 1 else.
+///
+/// [`TalkFault::Stream`]: the write failed. [`TalkFault::Memory`]: memory was refused.
+pub fn tell_decision<W: Write>(
+    alloc: Global,
+    decision: Option<bool>,
+    json: bool,
+    output: &mut W,
+) -> Result<u8, TalkFault>
+    ensures status { IfOk result (λ status. status ≡ status_for decision) }
+    ensures line { json ≡ false →
+        IfOk result (λ _. Appends (W.contents output.old) (W.contents output.new)
+        (decision_reply decision ++ 10 ∷ [])) }
+    ensures object { json ≡ true →
+        IfOk result (λ _. (object : List ℕ) × SaysSame (decision_reply decision) object
+        × Appends (W.contents output.old) (W.contents output.new) (object ++ 10 ∷ [])) }
+{
+    let mut reply = Vec::new(alloc);
+    reply.extend_from_slice(decision_reply(decision).as_bytes())?;
+    match tell_either(alloc, reply, json, output) {
+        Ok(_) => Ok(status_for(decision)),
+        Err(fault) => Err(fault),
+    }
 }
 
 /// The status for a decision that may be believed, or for none.
@@ -191,30 +217,26 @@ fn tell_either<W: Write>(
     tell(reply, output)
 }
 
-/// Writes the decision that may be believed, or that there is none, as a line or as an object of
-/// JSON. The status is 0 for a decision, and 1 else.
-///
-/// [`TalkFault::Stream`]: the write failed. [`TalkFault::Memory`]: memory was refused.
-pub fn tell_decision<W: Write>(
-    alloc: Global,
-    decision: Option<bool>,
-    json: bool,
-    output: &mut W,
-) -> Result<u8, TalkFault>
-    ensures status { IfOk result (λ status. status ≡ status_for decision) }
-    ensures line { json ≡ false →
-        IfOk result (λ _. Appends (W.contents output.old) (W.contents output.new)
-        (decision_reply decision ++ 10 ∷ [])) }
-    ensures object { json ≡ true →
-        IfOk result (λ _. (object : List ℕ) × SaysSame (decision_reply decision) object
-        × Appends (W.contents output.old) (W.contents output.new) (object ++ 10 ∷ [])) }
+/// Returns the bit of a text that begins as a transcript of this question; none if it doesn't.
+pub fn transcript_bit(alloc: Global, text: &[u8], question: u16) -> Result<Option<bool>, AllocError>
+    ensures { IfOk result
+        (λ found. IfSome found (λ bit. IsTranscriptOf question (bit_number bit) text.now)) }
 {
-    let mut reply = Vec::new(alloc);
-    reply.extend_from_slice(decision_reply(decision).as_bytes())?;
-    match tell_either(alloc, reply, json, output) {
-        Ok(_) => Ok(status_for(decision)),
-        Err(fault) => Err(fault),
+    if is_transcript_of(alloc, text, question, 0)? {
+        return Ok(Some(false));
     }
+    if is_transcript_of(alloc, text, question, 1)? {
+        return Ok(Some(true));
+    }
+    Ok(None)
+}
+
+/// Returns `true` if the text begins as a transcript of the question and the bit.
+fn is_transcript_of(alloc: Global, text: &[u8], question: u16, bit: u8) -> Result<bool, AllocError>
+    ensures { IfOk result (λ found. IsTrue found → IsTranscriptOf question bit text.now) }
+{
+    let head = transcript_head(alloc, question, bit)?;
+    Ok(begins(text, head.as_str()))
 }
 
 /// The beginning of a transcript of the question and the bit.
@@ -229,26 +251,4 @@ fn begins(text: &[u8], head: &str) -> bool
     ensures { IsTrue result → (rest : List ℕ) × (text.now ≡ head.now ++ rest) }
 {
     behind(text, head).is_some()
-}
-
-/// Returns `true` if the text begins as a transcript of the question and the bit.
-fn is_transcript_of(alloc: Global, text: &[u8], question: u16, bit: u8) -> Result<bool, AllocError>
-    ensures { IfOk result (λ found. IsTrue found → IsTranscriptOf question bit text.now) }
-{
-    let head = transcript_head(alloc, question, bit)?;
-    Ok(begins(text, head.as_str()))
-}
-
-/// Returns the bit of a text that begins as a transcript of this question; none if it doesn't.
-pub fn transcript_bit(alloc: Global, text: &[u8], question: u16) -> Result<Option<bool>, AllocError>
-    ensures { IfOk result
-        (λ found. IfSome found (λ bit. IsTranscriptOf question (bit_number bit) text.now)) }
-{
-    if is_transcript_of(alloc, text, question, 0)? {
-        return Ok(Some(false));
-    }
-    if is_transcript_of(alloc, text, question, 1)? {
-        return Ok(Some(true));
-    }
-    Ok(None)
 }

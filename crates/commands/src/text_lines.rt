@@ -29,38 +29,6 @@ pub fn line_at<'a>(
     Ok(lines.get(number.saturating_sub(1)).copied())
 }
 
-/// Returns `true` if the byte may stand behind a key.
-fn ends_key(byte: u8) -> bool
-    ensures { IsTrue result ↔ EndsKey byte }
-{
-    byte == b' ' || byte == b'='
-}
-
-/// Returns `true` if the line gives the key of that name a value: it begins with the name, and a
-/// blank or `=` behind it.
-fn says(line: &[u8], name: &str) -> bool
-    ensures { IsTrue result ↔ SaysKey name.now line.now }
-{
-    let end = name.len();
-    match line.get(end) {
-        Some(byte) => ends_key(*byte) && is(&line[..end], name),
-        None => false,
-    }
-}
-
-/// The number of the first line, counted from 1, that gives the key of that name a value; none
-/// where no line does.
-fn first_line(lines: &[&[u8]], name: &str) -> Option<usize>
-    ensures { IsFirstLine (SaysKey name.now) (texts lines.now) result }
-{
-    for (index, line) in lines.iter().enumerate() {
-        if says(line, name) {
-            return Some(index + 1);
-        }
-    }
-    None
-}
-
 /// The number of a line, counted from 1, that gives the key a value at its beginning; the first,
 /// where there are several, and none where no line does.
 pub fn line_of_key(alloc: Global, text: &[u8], key: Key) -> Result<Option<usize>, AllocError>
@@ -79,13 +47,28 @@ pub fn line_of_name(alloc: Global, text: &[u8], name: &str) -> Result<Option<usi
     Ok(first_line(&lines, name))
 }
 
-/// Returns `true` if a table begins at the line.
-fn is_head(line: &[u8]) -> bool
-    ensures { IsTrue result ↔ IsHead line.now }
+/// The number of the first line, counted from 1, that gives the key of that name a value; none
+/// where no line does.
+fn first_line(lines: &[&[u8]], name: &str) -> Option<usize>
+    ensures { IsFirstLine (SaysKey name.now) (texts lines.now) result }
 {
-    match line.first() {
-        Some(byte) => *byte == b'[',
-        None => false,
+    for (index, line) in lines.iter().enumerate() {
+        if says(line, name) {
+            return Some(index + 1);
+        }
+    }
+    None
+}
+
+/// The number of the first line below the head of a table, counted from 1, that gives a key of that
+/// name a value; none where no line does.
+pub fn line_in_table(alloc: Global, text: &[u8], name: &str) -> Result<Option<usize>, AllocError>
+    ensures { IfOk result (λ found. IfSome found (IsLineInTable name.now (lines_in text.now))) }
+{
+    let lines = lines_in(alloc, text)?;
+    match first_head(&lines) {
+        Some(head) => Ok(line_behind(&lines, name, head)),
+        None => Ok(None),
     }
 }
 
@@ -101,13 +84,14 @@ fn first_head(lines: &[&[u8]]) -> Option<usize>
     None
 }
 
-/// Returns `true` if the line at this index stands behind that place, or at it, and gives the key
-/// of that name a value.
-fn is_behind(index: usize, place: usize, line: &[u8], name: &str) -> bool
-    ensures place { IsTrue result → place ≤ index }
-    ensures says { IsTrue result → SaysKey name.now line.now }
+/// Returns `true` if a table begins at the line.
+fn is_head(line: &[u8]) -> bool
+    ensures { IsTrue result ↔ IsHead line.now }
 {
-    index >= place && says(line, name)
+    match line.first() {
+        Some(byte) => *byte == b'[',
+        None => false,
+    }
 }
 
 /// The number of the first line behind that place, counted from 1, that gives the key of that name
@@ -126,16 +110,32 @@ fn line_behind(lines: &[&[u8]], name: &str, place: usize) -> Option<usize>
     None
 }
 
-/// The number of the first line below the head of a table, counted from 1, that gives a key of that
-/// name a value; none where no line does.
-pub fn line_in_table(alloc: Global, text: &[u8], name: &str) -> Result<Option<usize>, AllocError>
-    ensures { IfOk result (λ found. IfSome found (IsLineInTable name.now (lines_in text.now))) }
+/// Returns `true` if the line at this index stands behind that place, or at it, and gives the key
+/// of that name a value.
+fn is_behind(index: usize, place: usize, line: &[u8], name: &str) -> bool
+    ensures place { IsTrue result → place ≤ index }
+    ensures says { IsTrue result → SaysKey name.now line.now }
 {
-    let lines = lines_in(alloc, text)?;
-    match first_head(&lines) {
-        Some(head) => Ok(line_behind(&lines, name, head)),
-        None => Ok(None),
+    index >= place && says(line, name)
+}
+
+/// Returns `true` if the line gives the key of that name a value: it begins with the name, and a
+/// blank or `=` behind it.
+fn says(line: &[u8], name: &str) -> bool
+    ensures { IsTrue result ↔ SaysKey name.now line.now }
+{
+    let end = name.len();
+    match line.get(end) {
+        Some(byte) => ends_key(*byte) && is(&line[..end], name),
+        None => false,
     }
+}
+
+/// Returns `true` if the byte may stand behind a key.
+fn ends_key(byte: u8) -> bool
+    ensures { IsTrue result ↔ EndsKey byte }
+{
+    byte == b' ' || byte == b'='
 }
 
 /// The number of the line, counted from 1, in which the byte at this place stands.

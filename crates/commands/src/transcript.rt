@@ -20,46 +20,6 @@ pub fn transcript_line(alloc: Global, question: u16) -> Result<String, AllocErro
     format!(in alloc; "TRANSCRIPT {question}\n")
 }
 
-/// Reads so many lines, each of at most 64 bytes, and puts them behind the text.
-fn read_lines<R: Read>(
-    alloc: Global,
-    count: u64,
-    from: &mut R,
-    text: &mut Vec<u8>,
-) -> Result<(), TalkFault>
-    ensures { IfOk result (λ _. (lines : List (List ℕ)) × AreLines count lines
-        × (text.new.items ≡ text.old.items ++ lines_text lines)
-        × Consumes (R.remaining from.old) (R.remaining from.new) (lines_text lines)) }
-{
-    let mut left = count;
-    while left > 0 {
-        let line = reply_of(alloc, from)?;
-        text.extend_from_slice(&line)?;
-        text.push(b'\n')?;
-        left -= 1;
-    }
-    Ok(())
-}
-
-/// Reads a whole reply, and gives its status with it.
-fn whole_reply<R: Read>(alloc: Global, from: &mut R) -> Result<(Vec<u8>, u8), TalkFault>
-    ensures { IfOk result (λ found. IsTranscriptReply found.0.items found.1
-        × Consumes (R.remaining from.old) (R.remaining from.new) found.0.items) }
-{
-    let mut reply = reply_of(alloc, from)?;
-    let count = count_in(&reply);
-    let known = is_reply(&reply);
-    reply.push(b'\n')?;
-    match count {
-        Some(count) => {
-            read_lines(alloc, count, from, &mut reply)?;
-            Ok((reply, 0))
-        }
-        None if known => Ok((reply, 1)),
-        None => Err(TalkFault::NoAnswer),
-    }
-}
-
 /// Sends the line over a connection to a member's desk, reads one reply, and writes it. Where its
 /// first line begins a transcript, as many lines belong to it as that counts, and the status is 0;
 /// else it is that line alone, and the status is 1.
@@ -84,4 +44,44 @@ pub fn fetch_transcript<R: Read, S: Write, W: Write>(
     let (reply, status) = whole_reply(alloc, from)?;
     print_reply(&reply, output)?;
     Ok(status)
+}
+
+/// Reads a whole reply, and gives its status with it.
+fn whole_reply<R: Read>(alloc: Global, from: &mut R) -> Result<(Vec<u8>, u8), TalkFault>
+    ensures { IfOk result (λ found. IsTranscriptReply found.0.items found.1
+        × Consumes (R.remaining from.old) (R.remaining from.new) found.0.items) }
+{
+    let mut reply = reply_of(alloc, from)?;
+    let count = count_in(&reply);
+    let known = is_reply(&reply);
+    reply.push(b'\n')?;
+    match count {
+        Some(count) => {
+            read_lines(alloc, count, from, &mut reply)?;
+            Ok((reply, 0))
+        }
+        None if known => Ok((reply, 1)),
+        None => Err(TalkFault::NoAnswer),
+    }
+}
+
+/// Reads so many lines, each of at most 64 bytes, and puts them behind the text.
+fn read_lines<R: Read>(
+    alloc: Global,
+    count: u64,
+    from: &mut R,
+    text: &mut Vec<u8>,
+) -> Result<(), TalkFault>
+    ensures { IfOk result (λ _. (lines : List (List ℕ)) × AreLines count lines
+        × (text.new.items ≡ text.old.items ++ lines_text lines)
+        × Consumes (R.remaining from.old) (R.remaining from.new) (lines_text lines)) }
+{
+    let mut left = count;
+    while left > 0 {
+        let line = reply_of(alloc, from)?;
+        text.extend_from_slice(&line)?;
+        text.push(b'\n')?;
+        left -= 1;
+    }
+    Ok(())
 }

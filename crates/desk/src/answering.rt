@@ -24,43 +24,6 @@ const NO_LINKS: LinkCount = LinkCount {
     outgoing: 0,
 };
 
-/// The reply where the member refuses.
-fn refusal_reply(fault: MemberFault) -> Reply
-    ensures { result ≡ refusal_reply fault }
-{
-    match fault {
-        MemberFault::Stopped => Reply::Stopped,
-        MemberFault::Device => Reply::Stopped,
-        MemberFault::Memory => Reply::Memory,
-        MemberFault::JournalFull => Reply::Stopped,
-        MemberFault::NoSuchQuestion => Reply::BadQuestion,
-        MemberFault::NoSuchMember => Reply::Stopped,
-    }
-}
-
-/// The reply to a proposal.
-pub(crate) fn propose<D: Disk, J: Naming>(
-    book: &mut Book<D, J>,
-    question: u16,
-    bit: bool,
-    toss: Toss,
-) -> Reply
-    ensures reply { Proposes book.old question bit toss.0 result book.new }
-    ensures log { book.new.log ≡ book.old.log }
-    ensures stopped { result ≡ reply.Stopped →
-        WhyStopped D.failures book.old question bit toss.0 book.new }
-    ensures memory { result ≡ reply.Memory →
-        member_disk book.new.member ≡ member_disk book.old.member }
-{
-    match book.propose(question, bit, toss) {
-        Ok(Answer::Taken(_)) => Reply::Taken,
-        Ok(Answer::Have(stands)) => Reply::Have(stands),
-        Ok(Answer::Repeat) => Reply::Taken,
-        Ok(Answer::Foreign) => Reply::Taken,
-        Err(fault) => refusal_reply(fault),
-    }
-}
-
 /// The reply to a proposal, for a pass of the book's board, which sees how far the book is: none,
 /// and nothing changes, if it saw more.
 pub(crate) fn propose_for<D: Disk, J: Naming>(
@@ -87,47 +50,6 @@ pub(crate) fn propose_for<D: Disk, J: Naming>(
     Some(reply)
 }
 
-/// The reply for a verdict.
-pub(crate) fn verdict_reply(verdict: Option<bool>) -> Reply
-    ensures { result ≡ verdict_reply verdict }
-{
-    match verdict {
-        Some(bit) => Reply::Decided(bit),
-        None => Reply::Undecided,
-    }
-}
-
-/// The reply to a question's asking.
-fn ask<D: Disk, J: Naming>(book: &Book<D, J>, question: u16) -> Reply
-    ensures { result ≡ asking_reply book.now question }
-{
-    if question < book.header().size().questions() {
-        verdict_reply(book.verdict(question))
-    } else {
-        Reply::BadQuestion
-    }
-}
-
-/// The reply for how far a member is.
-pub(crate) fn standing_reply(status: Option<(u64, u16)>) -> Reply
-    ensures { result ≡ standing_reply status }
-{
-    match status {
-        Some((statements, decided)) => Reply::Up {
-            statements,
-            decided,
-        },
-        None => Reply::Stopped,
-    }
-}
-
-/// Returns how far the member is.
-fn status<D: Disk, J: Naming>(book: &Book<D, J>) -> Reply
-    ensures { result ≡ status_reply book.now }
-{
-    standing_reply(book.status())
-}
-
 /// The reply that so many links of a member of a cluster of that size are up, if the member is, of
 /// which is told how far it is.
 pub(crate) fn standing_links(status: Option<(u64, u16)>, count: LinkCount, size: Size) -> Reply
@@ -136,62 +58,6 @@ pub(crate) fn standing_links(status: Option<(u64, u16)>, count: LinkCount, size:
     match status {
         Some(_) => Reply::Links { count, size },
         None => Reply::Stopped,
-    }
-}
-
-/// Returns the reply that so many links are up, if the member is.
-fn links_reply<D: Disk, J: Naming>(book: &Book<D, J>, count: LinkCount) -> Reply
-    ensures { result ≡ links_reply book.now count }
-{
-    if book.is_stopped() {
-        return Reply::Stopped;
-    }
-    let size = book.header().size();
-    Reply::Links { count, size }
-}
-
-/// The reply by how a question of the cluster stands.
-pub(crate) fn state_reply(state: Option<QuestionState>) -> Reply
-    ensures { result ≡ state_reply state }
-{
-    match state {
-        Some(state) => Reply::State(state),
-        None => Reply::Stopped,
-    }
-}
-
-/// Says how a question stands at the member.
-fn state<D: Disk, J: Naming>(book: &Book<D, J>, question: u16) -> Reply
-    ensures { IsStateReply book.now question result }
-{
-    if question < book.header().size().questions() {
-        state_reply(book.state(question))
-    } else {
-        Reply::BadQuestion
-    }
-}
-
-/// Returns what a transcript of a question is made of, or the reply where there is none.
-pub(crate) fn dossier_of<D: Disk, J: Naming>(
-    book: &Book<D, J>,
-    question: u16,
-) -> Result<Dossier, Reply>
-    ensures ok { IfOk result
-        (λ dossier. MayBeShown book.now question × IsDossier book.now question dossier) }
-    ensures err { IfErr result (IsTranscriptReply book.now question) }
-{
-    if question >= book.header().size().questions() {
-        return Err(Reply::BadQuestion);
-    }
-    if book.is_stopped() {
-        return Err(Reply::Stopped);
-    }
-    match book.dossier(question) {
-        Ok(dossier) => Ok(dossier),
-        Err(TranscriptFault::NoSuchQuestion) => Err(Reply::BadQuestion),
-        Err(TranscriptFault::Undecided) => Err(Reply::Undecided),
-        Err(TranscriptFault::Thin) => Err(Reply::Thin),
-        Err(TranscriptFault::Memory) => Err(Reply::Memory),
     }
 }
 
@@ -216,39 +82,12 @@ pub(crate) fn dossier_for<D: Disk, J: Naming>(
     Some(dossier_of(book, question))
 }
 
-/// Returns what was heard of a question, if it shows the decision.
-pub(crate) fn transcript_reply(dossier: Dossier) -> Reply
-    ensures { IsDossierReply dossier result }
-{
-    let question = dossier.question();
-    match dossier.transcript() {
-        Ok(transcript) => Reply::Transcript {
-            question,
-            transcript,
-        },
-        Err(TranscriptFault::NoSuchQuestion) => Reply::BadQuestion,
-        Err(TranscriptFault::Undecided) => Reply::Undecided,
-        Err(TranscriptFault::Thin) => Reply::Thin,
-        Err(TranscriptFault::Memory) => Reply::Memory,
-    }
-}
-
 /// The reply that shows what a transcript is made of, if it is there.
 pub(crate) fn reply_of(asked: Result<Dossier, Reply>) -> Reply
     ensures ok { IfOk asked (λ dossier. IsDossierReply dossier result) }
     ensures err { IfErr asked (λ reply. result ≡ reply) }
 {
     match asked {
-        Ok(dossier) => transcript_reply(dossier),
-        Err(reply) => reply,
-    }
-}
-
-/// Returns what was heard of a question, if it shows the decision.
-fn transcribe<D: Disk, J: Naming>(book: &Book<D, J>, question: u16) -> Reply
-    ensures { IsTranscriptReply book.now question result }
-{
-    match dossier_of(book, question) {
         Ok(dossier) => transcript_reply(dossier),
         Err(reply) => reply,
     }
@@ -299,5 +138,166 @@ pub fn answer<D: Disk, J: Naming>(book: &mut Book<D, J>, command: &Command, toss
         Command::Transcript { question } => transcribe(book, question),
         Command::Links => links_reply(book, NO_LINKS),
         Command::State { question } => state(book, question),
+    }
+}
+
+/// The reply to a question's asking.
+fn ask<D: Disk, J: Naming>(book: &Book<D, J>, question: u16) -> Reply
+    ensures { result ≡ asking_reply book.now question }
+{
+    if question < book.header().size().questions() {
+        verdict_reply(book.verdict(question))
+    } else {
+        Reply::BadQuestion
+    }
+}
+
+/// Returns the reply that so many links are up, if the member is.
+fn links_reply<D: Disk, J: Naming>(book: &Book<D, J>, count: LinkCount) -> Reply
+    ensures { result ≡ links_reply book.now count }
+{
+    if book.is_stopped() {
+        return Reply::Stopped;
+    }
+    let size = book.header().size();
+    Reply::Links { count, size }
+}
+
+/// Returns what was heard of a question, if it shows the decision.
+fn transcribe<D: Disk, J: Naming>(book: &Book<D, J>, question: u16) -> Reply
+    ensures { IsTranscriptReply book.now question result }
+{
+    match dossier_of(book, question) {
+        Ok(dossier) => transcript_reply(dossier),
+        Err(reply) => reply,
+    }
+}
+
+/// The reply to a proposal.
+pub(crate) fn propose<D: Disk, J: Naming>(
+    book: &mut Book<D, J>,
+    question: u16,
+    bit: bool,
+    toss: Toss,
+) -> Reply
+    ensures reply { Proposes book.old question bit toss.0 result book.new }
+    ensures log { book.new.log ≡ book.old.log }
+    ensures stopped { result ≡ reply.Stopped →
+        WhyStopped D.failures book.old question bit toss.0 book.new }
+    ensures memory { result ≡ reply.Memory →
+        member_disk book.new.member ≡ member_disk book.old.member }
+{
+    match book.propose(question, bit, toss) {
+        Ok(Answer::Taken(_)) => Reply::Taken,
+        Ok(Answer::Have(stands)) => Reply::Have(stands),
+        Ok(Answer::Repeat) => Reply::Taken,
+        Ok(Answer::Foreign) => Reply::Taken,
+        Err(fault) => refusal_reply(fault),
+    }
+}
+
+/// The reply where the member refuses.
+fn refusal_reply(fault: MemberFault) -> Reply
+    ensures { result ≡ refusal_reply fault }
+{
+    match fault {
+        MemberFault::Stopped => Reply::Stopped,
+        MemberFault::Device => Reply::Stopped,
+        MemberFault::Memory => Reply::Memory,
+        MemberFault::JournalFull => Reply::Stopped,
+        MemberFault::NoSuchQuestion => Reply::BadQuestion,
+        MemberFault::NoSuchMember => Reply::Stopped,
+    }
+}
+
+/// The reply for a verdict.
+pub(crate) fn verdict_reply(verdict: Option<bool>) -> Reply
+    ensures { result ≡ verdict_reply verdict }
+{
+    match verdict {
+        Some(bit) => Reply::Decided(bit),
+        None => Reply::Undecided,
+    }
+}
+
+/// The reply for how far a member is.
+pub(crate) fn standing_reply(status: Option<(u64, u16)>) -> Reply
+    ensures { result ≡ standing_reply status }
+{
+    match status {
+        Some((statements, decided)) => Reply::Up {
+            statements,
+            decided,
+        },
+        None => Reply::Stopped,
+    }
+}
+
+/// Returns how far the member is.
+fn status<D: Disk, J: Naming>(book: &Book<D, J>) -> Reply
+    ensures { result ≡ status_reply book.now }
+{
+    standing_reply(book.status())
+}
+
+/// The reply by how a question of the cluster stands.
+pub(crate) fn state_reply(state: Option<QuestionState>) -> Reply
+    ensures { result ≡ state_reply state }
+{
+    match state {
+        Some(state) => Reply::State(state),
+        None => Reply::Stopped,
+    }
+}
+
+/// Says how a question stands at the member.
+fn state<D: Disk, J: Naming>(book: &Book<D, J>, question: u16) -> Reply
+    ensures { IsStateReply book.now question result }
+{
+    if question < book.header().size().questions() {
+        state_reply(book.state(question))
+    } else {
+        Reply::BadQuestion
+    }
+}
+
+/// Returns what a transcript of a question is made of, or the reply where there is none.
+pub(crate) fn dossier_of<D: Disk, J: Naming>(
+    book: &Book<D, J>,
+    question: u16,
+) -> Result<Dossier, Reply>
+    ensures ok { IfOk result
+        (λ dossier. MayBeShown book.now question × IsDossier book.now question dossier) }
+    ensures err { IfErr result (IsTranscriptReply book.now question) }
+{
+    if question >= book.header().size().questions() {
+        return Err(Reply::BadQuestion);
+    }
+    if book.is_stopped() {
+        return Err(Reply::Stopped);
+    }
+    match book.dossier(question) {
+        Ok(dossier) => Ok(dossier),
+        Err(TranscriptFault::NoSuchQuestion) => Err(Reply::BadQuestion),
+        Err(TranscriptFault::Undecided) => Err(Reply::Undecided),
+        Err(TranscriptFault::Thin) => Err(Reply::Thin),
+        Err(TranscriptFault::Memory) => Err(Reply::Memory),
+    }
+}
+
+/// Returns what was heard of a question, if it shows the decision.
+pub(crate) fn transcript_reply(dossier: Dossier) -> Reply
+    ensures { IsDossierReply dossier result }
+{
+    let question = dossier.question();
+    match dossier.transcript() {
+        Ok(transcript) => Reply::Transcript {
+            question,
+            transcript,
+        },
+        Err(TranscriptFault::NoSuchQuestion) => Reply::BadQuestion,
+        Err(TranscriptFault::Undecided) => Reply::Undecided,
+        Err(TranscriptFault::Thin) => Reply::Thin,
+        Err(TranscriptFault::Memory) => Reply::Memory,
     }
 }

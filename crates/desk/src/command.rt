@@ -47,14 +47,24 @@ pub enum Command {
     },
 }
 
-/// The question, if there are so many.
-fn below(question: u64, questions: u16) -> Result<u16, Reply>
-    ensures { result ≡ (if nat_lt question questions then Ok question else Err BadQuestion) }
+/// The command that a line is, for a cluster of that size. The line is what stood before the byte
+/// 10 that ended it, or before the end of the input; one byte 13 at its end is dropped. It takes no
+/// memory.
+///
+/// Refused with the first that holds: [`Reply::BadLine`], where the line has more than 4,096 bytes
+/// or is none of `PROPOSE q v`, `ASK q`, `AWAIT q`, `STATE q`, `STATUS`, `TRANSCRIPT q` and
+/// `LINKS`, with one space between two words and one to five decimal digits for q;
+/// [`Reply::BadQuestion`], where there is no such question; [`Reply::BadBit`], where v is neither
+/// `0` nor `1`.
+pub fn parse(line: &[u8], size: Size) -> Result<Command, Reply>
+    ensures asked { (asked : LineRequest) → LineAsks line.now asked →
+        result ≡ command_for size.questions asked }
+    ensures none { AsksNothing line.now → result ≡ Err BadLine }
+    ensures either { Parses size.questions line.now result }
 {
-    if question < u64::from(questions) {
-        Ok(question as u16)
-    } else {
-        Err(Reply::BadQuestion)
+    match read(line) {
+        Some(asked) => command_for(asked, size.questions()),
+        None => Err(Reply::BadLine),
     }
 }
 
@@ -91,23 +101,13 @@ fn command_for(asked: LineRequest, questions: u16) -> Result<Command, Reply>
     }
 }
 
-/// The command that a line is, for a cluster of that size. The line is what stood before the byte
-/// 10 that ended it, or before the end of the input; one byte 13 at its end is dropped. It takes no
-/// memory.
-///
-/// Refused with the first that holds: [`Reply::BadLine`], where the line has more than 4,096 bytes
-/// or is none of `PROPOSE q v`, `ASK q`, `AWAIT q`, `STATE q`, `STATUS`, `TRANSCRIPT q` and
-/// `LINKS`, with one space between two words and one to five decimal digits for q;
-/// [`Reply::BadQuestion`], where there is no such question; [`Reply::BadBit`], where v is neither
-/// `0` nor `1`.
-pub fn parse(line: &[u8], size: Size) -> Result<Command, Reply>
-    ensures asked { (asked : LineRequest) → LineAsks line.now asked →
-        result ≡ command_for size.questions asked }
-    ensures none { AsksNothing line.now → result ≡ Err BadLine }
-    ensures either { Parses size.questions line.now result }
+/// The question, if there are so many.
+fn below(question: u64, questions: u16) -> Result<u16, Reply>
+    ensures { result ≡ (if nat_lt question questions then Ok question else Err BadQuestion) }
 {
-    match read(line) {
-        Some(asked) => command_for(asked, size.questions()),
-        None => Err(Reply::BadLine),
+    if question < u64::from(questions) {
+        Ok(question as u16)
+    } else {
+        Err(Reply::BadQuestion)
     }
 }

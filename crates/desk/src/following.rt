@@ -1,4 +1,4 @@
-//! A client that follows decisions: begin at `Follower::tell`, last.
+//! A client that follows decisions: begin at `Follower::tell`.
 
 ghost use Rattle.std.specs.Prelude.{ℕ, List, [], ◌∷◌, ◌≡◌, ◌≢◌, ◌≤◌, ◌+◌, ◌++◌, drop, length, IfOk};
 ghost use Rattle.arrayvec.specs.ArrayVec.{array_vec_len};
@@ -26,9 +26,6 @@ const LINE: usize = 32;
 
 /// The most decisions for which there is room.
 const MOST: usize = 64;
-
-/// Room for the lines that a follower is owed. It takes no memory.
-type Lines = ArrayVec<u8, 1024>;
 
 /// The result of telling a follower once, if it goes on.
 #[derive(Clone, Copy, Debug, PartialEq, Eq)]
@@ -76,41 +73,6 @@ impl Model for Follower {
     ghost view = { λ follower. record { next = follower.next; owed = follower.owed.items } };
 }
 
-/// Puts the bytes behind those that are there.
-fn put(lines: &mut Lines, bytes: &[u8])
-    requires { array_vec_len lines.old + length bytes.now ≤ 1024 }
-    ensures items { lines.new.items ≡ lines.old.items ++ bytes.now }
-    ensures len { array_vec_len lines.new ≡ array_vec_len lines.old + length bytes.now }
-{
-    let _ = lines.try_extend_from_slice(bytes);
-}
-
-/// Puts the line of a decision behind those that are there.
-fn put_decision(lines: &mut Lines, decision: Decision)
-    requires { array_vec_len lines.old + 32 ≤ 1024 }
-    ensures { lines.new.items ≡ lines.old.items ++ line (decision_text decision) }
-{
-    let mut digits = Buffer::new();
-    put(lines, b"DECIDED ");
-    put(lines, digits.format(decision.question).as_bytes());
-    if decision.bit {
-        put(lines, b" 1\n");
-    } else {
-        put(lines, b" 0\n");
-    }
-}
-
-/// Returns the bytes behind the first `count`.
-fn behind(lines: &Lines, count: usize) -> Lines
-    requires { count ≤ length lines.now.items }
-    ensures { result.items ≡ drop count lines.now.items }
-{
-    let bytes = lines.as_slice();
-    let mut rest = Lines::new();
-    let _ = rest.try_extend_from_slice(&bytes[count..]);
-    rest
-}
-
 impl Follower {
     /// Creates the follower whose client said `FOLLOW number` to the hub's member. It was told
     /// nothing yet.
@@ -127,6 +89,42 @@ impl Follower {
         }
     }
 
+    /// Tells it as many of the decisions that the member has saved, from its number on and in the
+    /// order of the journal, as its stream takes at once, by one write at most. An empty line comes
+    /// if it was told nothing for five seconds.
+    ///
+    /// # Errors
+    ///
+    /// The follower's session has ended:
+    ///
+    /// - [`FollowEnd::Ended`] if it was told all, and the member is stopped or comes to its end;
+    /// - [`FollowEnd::Left`] if it was told all, and its client closed its side, for which the
+    ///   stream is asked once a second;
+    /// - [`FollowEnd::Lost`] if the write failed;
+    /// - [`FollowEnd::Stalled`] if its client took nothing for ten seconds of what it is owed.
+    pub fn tell<D: Disk, J: Naming, S: Outlet, R: Wait>(
+        &mut self,
+        rt: &R,
+        hub: &Hub<D, J>,
+        stream: &mut S,
+    ) -> Result<Telling, FollowEnd>
+        // All that was written, by whatever calls, begins the lines of decisions with their
+        // numbers, from the first one on.
+        ensures tells { (from : ℕ) (old : List ℕ) →
+            Tells (IsDecisionOf D hub.now) from old self.old (S.written stream.old) →
+            Tells (IsDecisionOf D hub.now) from old self.new (S.written stream.new) }
+        // Whole lines were written, unless it says that it was a part.
+        ensures whole { IfOk result (λ told. told ≢ telling.Part → self.new.owed ≡ []) }
+    {
+        self.begin(hub.seconds());
+        self.owe_decisions(rt, hub);
+        self.owe_blank(hub);
+        if self.owed.is_empty() {
+            return self.rest(rt, hub, stream);
+        }
+        self.write(hub, stream)
+    }
+
     /// Counts from that second on for how long it takes nothing, if it is owed nothing yet.
     fn begin(&mut self, now: u64)
         ensures { self.new ≡ self.old }
@@ -135,25 +133,6 @@ impl Follower {
             return;
         }
         self.took = now;
-    }
-
-    /// Owes it the decision with its number, and returns `true`, if there is room for a line.
-    fn owe<D: Disk, J: Naming>(&mut self, hub: &Hub<D, J>, decision: Decision) -> bool
-        requires { IsDecisionOf D hub.now self.old.next decision }
-        ensures { (from : ℕ) (old wrote : List ℕ) →
-            Tells (IsDecisionOf D hub.now) from old self.old wrote →
-            Tells (IsDecisionOf D hub.now) from old self.new wrote }
-    {
-        if self.owed.remaining_capacity() < LINE {
-            return false;
-        }
-        let Some(next) = self.next.checked_add(1) else {
-            return false;
-        };
-        put_decision(&mut self.owed, decision);
-        self.next = next;
-        self.told = hub.seconds();
-        true
     }
 
     /// Owes it the decisions that it wasn't told, as many as there is room for.
@@ -173,6 +152,25 @@ impl Follower {
                 return;
             }
         }
+    }
+
+    /// Owes it the decision with its number, and returns `true`, if there is room for a line.
+    fn owe<D: Disk, J: Naming>(&mut self, hub: &Hub<D, J>, decision: Decision) -> bool
+        requires { IsDecisionOf D hub.now self.old.next decision }
+        ensures { (from : ℕ) (old wrote : List ℕ) →
+            Tells (IsDecisionOf D hub.now) from old self.old wrote →
+            Tells (IsDecisionOf D hub.now) from old self.new wrote }
+    {
+        if self.owed.remaining_capacity() < LINE {
+            return false;
+        }
+        let Some(next) = self.next.checked_add(1) else {
+            return false;
+        };
+        put_decision(&mut self.owed, decision);
+        self.next = next;
+        self.told = hub.seconds();
+        true
     }
 
     /// Owes it an empty line, if it is owed nothing and was told nothing for a while.
@@ -214,6 +212,23 @@ impl Follower {
         Ok(Telling::Nothing)
     }
 
+    /// Writes of what it is owed as much as its stream takes.
+    fn write<D: Disk, J: Naming, S: Outlet>(
+        &mut self,
+        hub: &Hub<D, J>,
+        stream: &mut S,
+    ) -> Result<Telling, FollowEnd>
+        ensures tells { (from : ℕ) (old : List ℕ) →
+            Tells (IsDecisionOf D hub.now) from old self.old (S.written stream.old) →
+            Tells (IsDecisionOf D hub.now) from old self.new (S.written stream.new) }
+        ensures whole { IfOk result (λ told. told ≢ telling.Part → self.new.owed ≡ []) }
+    {
+        match stream.write(self.owed.as_slice()) {
+            Ok(count) => self.take(count, hub.seconds()),
+            Err(_) => Err(FollowEnd::Lost),
+        }
+    }
+
     /// Counts the bytes that the stream took of those that are owed.
     fn take(&mut self, count: usize, now: u64) -> Result<Telling, FollowEnd>
         requires { count ≤ length self.old.owed }
@@ -233,57 +248,42 @@ impl Follower {
             Ok(Telling::Part)
         }
     }
+}
 
-    /// Writes of what it is owed as much as its stream takes.
-    fn write<D: Disk, J: Naming, S: Outlet>(
-        &mut self,
-        hub: &Hub<D, J>,
-        stream: &mut S,
-    ) -> Result<Telling, FollowEnd>
-        ensures tells { (from : ℕ) (old : List ℕ) →
-            Tells (IsDecisionOf D hub.now) from old self.old (S.written stream.old) →
-            Tells (IsDecisionOf D hub.now) from old self.new (S.written stream.new) }
-        ensures whole { IfOk result (λ told. told ≢ telling.Part → self.new.owed ≡ []) }
-    {
-        match stream.write(self.owed.as_slice()) {
-            Ok(count) => self.take(count, hub.seconds()),
-            Err(_) => Err(FollowEnd::Lost),
-        }
-    }
-
-    /// Tells it as many of the decisions that the member has saved, from its number on and in the
-    /// order of the journal, as its stream takes at once, by one write at most. An empty line comes
-    /// if it was told nothing for five seconds.
-    ///
-    /// # Errors
-    ///
-    /// The follower's session has ended:
-    ///
-    /// - [`FollowEnd::Ended`] if it was told all, and the member is stopped or comes to its end;
-    /// - [`FollowEnd::Left`] if it was told all, and its client closed its side, for which the
-    ///   stream is asked once a second;
-    /// - [`FollowEnd::Lost`] if the write failed;
-    /// - [`FollowEnd::Stalled`] if its client took nothing for ten seconds of what it is owed.
-    pub fn tell<D: Disk, J: Naming, S: Outlet, R: Wait>(
-        &mut self,
-        rt: &R,
-        hub: &Hub<D, J>,
-        stream: &mut S,
-    ) -> Result<Telling, FollowEnd>
-        // All that was written, by whatever calls, begins the lines of decisions with their
-        // numbers, from the first one on.
-        ensures tells { (from : ℕ) (old : List ℕ) →
-            Tells (IsDecisionOf D hub.now) from old self.old (S.written stream.old) →
-            Tells (IsDecisionOf D hub.now) from old self.new (S.written stream.new) }
-        // Whole lines were written, unless it says that it was a part.
-        ensures whole { IfOk result (λ told. told ≢ telling.Part → self.new.owed ≡ []) }
-    {
-        self.begin(hub.seconds());
-        self.owe_decisions(rt, hub);
-        self.owe_blank(hub);
-        if self.owed.is_empty() {
-            return self.rest(rt, hub, stream);
-        }
-        self.write(hub, stream)
+/// Puts the line of a decision behind those that are there.
+fn put_decision(lines: &mut Lines, decision: Decision)
+    requires { array_vec_len lines.old + 32 ≤ 1024 }
+    ensures { lines.new.items ≡ lines.old.items ++ line (decision_text decision) }
+{
+    let mut digits = Buffer::new();
+    put(lines, b"DECIDED ");
+    put(lines, digits.format(decision.question).as_bytes());
+    if decision.bit {
+        put(lines, b" 1\n");
+    } else {
+        put(lines, b" 0\n");
     }
 }
+
+/// Puts the bytes behind those that are there.
+fn put(lines: &mut Lines, bytes: &[u8])
+    requires { array_vec_len lines.old + length bytes.now ≤ 1024 }
+    ensures items { lines.new.items ≡ lines.old.items ++ bytes.now }
+    ensures len { array_vec_len lines.new ≡ array_vec_len lines.old + length bytes.now }
+{
+    let _ = lines.try_extend_from_slice(bytes);
+}
+
+/// Returns the bytes behind the first `count`.
+fn behind(lines: &Lines, count: usize) -> Lines
+    requires { count ≤ length lines.now.items }
+    ensures { result.items ≡ drop count lines.now.items }
+{
+    let bytes = lines.as_slice();
+    let mut rest = Lines::new();
+    let _ = rest.try_extend_from_slice(&bytes[count..]);
+    rest
+}
+
+/// Room for the lines that a follower is owed. It takes no memory.
+type Lines = ArrayVec<u8, 1024>;

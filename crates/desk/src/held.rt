@@ -25,17 +25,6 @@ impl Model for HeldLine {
     ghost view = { λ held. take held.length held.bytes };
 }
 
-/// The effect of a byte on the line.
-#[derive(Clone, Copy, Debug, PartialEq, Eq)]
-pub(crate) enum LineStep {
-    /// The byte belongs to the line.
-    More,
-    /// The byte ends the line.
-    Ends,
-    /// The byte would be the 4,097th.
-    TooLong,
-}
-
 impl HeldLine {
     /// No bytes.
     pub(crate) fn new() -> HeldLine
@@ -75,6 +64,17 @@ impl HeldLine {
     {
         self.length = 0;
     }
+}
+
+/// The effect of a byte on the line.
+#[derive(Clone, Copy, Debug, PartialEq, Eq)]
+pub(crate) enum LineStep {
+    /// The byte belongs to the line.
+    More,
+    /// The byte ends the line.
+    Ends,
+    /// The byte would be the 4,097th.
+    TooLong,
 }
 
 /// The things that a session holds: the line that is being read, and replies that were not written

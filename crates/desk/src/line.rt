@@ -28,6 +28,49 @@ pub(crate) enum LineRequest {
     State { question: u64 },
 }
 
+/// Returns what a line of a client asks.
+pub(crate) fn read(line: &[u8]) -> Option<LineRequest>
+    ensures some { IfSome result (LineAsks line.now) }
+    ensures exact { (asked : LineRequest) → LineAsks line.now asked → result ≡ Some asked }
+{
+    if line.len() > LONGEST {
+        return None;
+    }
+    asked(trimmed(line))
+}
+
+/// The number from which on the line asks for decisions, if it asks for that.
+pub(crate) fn follows(line: &[u8]) -> Option<u64>
+    ensures some { IfSome result (AsksToFollow line.now) }
+    ensures none { IfNone result ((number : ℕ) → AsksToFollow line.now number → ⊥) }
+{
+    match behind(trimmed(line), "FOLLOW ") {
+        Some(digits) => question(digits),
+        None => None,
+    }
+}
+
+/// The line without its last byte where that is a 13.
+pub(crate) fn trimmed(line: &[u8]) -> &[u8]
+    ensures { result.now ≡ trimmed line.now }
+{
+    if ends_in_return(line) {
+        &line[..line.len().saturating_sub(1)]
+    } else {
+        line
+    }
+}
+
+/// Returns `true` if the line ends in a byte 13.
+fn ends_in_return(line: &[u8]) -> bool
+    ensures { result ≡ is_return (slice_get line.now (length line.now - 1)) }
+{
+    match line.last() {
+        Some(byte) => *byte == b'\r',
+        None => false,
+    }
+}
+
 /// The number that one to five decimal digits write.
 fn question(digits: &[u8]) -> Option<u64>
     ensures some { IfSome result (IsQuestion digits.now) }
@@ -156,48 +199,5 @@ fn asked_longer(text: &[u8]) -> Option<LineRequest>
             },
             None => asked_last(text),
         },
-    }
-}
-
-/// Returns `true` if the line ends in a byte 13.
-fn ends_in_return(line: &[u8]) -> bool
-    ensures { result ≡ is_return (slice_get line.now (length line.now - 1)) }
-{
-    match line.last() {
-        Some(byte) => *byte == b'\r',
-        None => false,
-    }
-}
-
-/// The line without its last byte where that is a 13.
-pub(crate) fn trimmed(line: &[u8]) -> &[u8]
-    ensures { result.now ≡ trimmed line.now }
-{
-    if ends_in_return(line) {
-        &line[..line.len().saturating_sub(1)]
-    } else {
-        line
-    }
-}
-
-/// Returns what a line of a client asks.
-pub(crate) fn read(line: &[u8]) -> Option<LineRequest>
-    ensures some { IfSome result (LineAsks line.now) }
-    ensures exact { (asked : LineRequest) → LineAsks line.now asked → result ≡ Some asked }
-{
-    if line.len() > LONGEST {
-        return None;
-    }
-    asked(trimmed(line))
-}
-
-/// The number from which on the line asks for decisions, if it asks for that.
-pub(crate) fn follows(line: &[u8]) -> Option<u64>
-    ensures some { IfSome result (AsksToFollow line.now) }
-    ensures none { IfNone result ((number : ℕ) → AsksToFollow line.now number → ⊥) }
-{
-    match behind(trimmed(line), "FOLLOW ") {
-        Some(digits) => question(digits),
-        None => None,
     }
 }

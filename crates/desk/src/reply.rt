@@ -59,14 +59,6 @@ pub enum Reply {
     Memory,
 }
 
-/// Returns how many links each way a member of a cluster of that size needs to decide.
-pub(crate) fn needed(size: Size) -> u8
-    ensures { result ≡ size.n - size.t }
-{
-    size.recall();
-    size.n() - size.t()
-}
-
 impl fmt::Display for Reply {
     ghost use Rattle.std.specs.Prelude.{Some};
     ghost use Rattle.desk.specs.Replies.{reply_text};
@@ -118,4 +110,12 @@ impl fmt::Display for Reply {
             Reply::Memory => f.write_str("ERR 4 memory"),
         }
     }
+}
+
+/// Returns how many links each way a member of a cluster of that size needs to decide.
+pub(crate) fn needed(size: Size) -> u8
+    ensures { result ≡ size.n - size.t }
+{
+    size.recall();
+    size.n() - size.t()
 }

@@ -57,24 +57,6 @@ pub struct Turns {
     rest: Mutex<Rest>,
 }
 
-/// The time, if the clock tells it.
-fn time_of<R: Clock>(rt: &R) -> Option<Instant> {
-    match Instant::now(rt) {
-        Ok(now) => Some(now),
-        Err(_) => None,
-    }
-}
-
-/// The milliseconds of the longest wait in one piece, so that a member's end isn't held up.
-const PIECE: u64 = 20;
-
-/// A client's turn, which ends when it is given back.
-#[derive(Drop)]
-pub(crate) struct Turn<'a> {
-    rest: MutexGuard<'a, Rest>,
-    began: Option<Instant>,
-}
-
 impl Turns {
     /// Nobody has a turn.
     pub fn new() -> Turns {
@@ -90,6 +72,16 @@ impl Turns {
             began: None,
         }
     }
+}
+
+/// The milliseconds of the longest wait in one piece, so that a member's end isn't held up.
+const PIECE: u64 = 20;
+
+/// A client's turn, which ends when it is given back.
+#[derive(Drop)]
+pub(crate) struct Turn<'a> {
+    rest: MutexGuard<'a, Rest>,
+    began: Option<Instant>,
 }
 
 impl Turn<'_> {
@@ -116,5 +108,13 @@ impl Turn<'_> {
         if let (Some(began), Some(ended)) = (self.began, time_of(rt)) {
             *self.rest = Rest::behind(began, ended);
         }
+    }
+}
+
+/// The time, if the clock tells it.
+fn time_of<R: Clock>(rt: &R) -> Option<Instant> {
+    match Instant::now(rt) {
+        Ok(now) => Some(now),
+        Err(_) => None,
     }
 }

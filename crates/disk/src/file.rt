@@ -101,14 +101,6 @@ impl<P: Premise> FileDisk<P> {
     }
 }
 
-/// The folder of a path, which is the working folder for a bare name.
-pub(crate) fn folder_of(path: &str) -> Path<'_> {
-    match Path::new(path).parent() {
-        Some(folder) if !folder.as_os_str().is_empty() => folder,
-        _ => Path::new("."),
-    }
-}
-
 impl<P: Premise> Disk for FileDisk<P> {
     ghost use Rattle.std.specs.Prelude.{◌⊎◌, ◌+◌, ◌≤◌, length, take, drop};
     ghost use Rattle.disk.specs.Model.{Elapses, FailedWrite, after_write};
@@ -264,5 +256,13 @@ impl<P: Premise> Disk for FileDisk<P> {
                 Err(fault)
             }
         }
+    }
+}
+
+/// The folder of a path, which is the working folder for a bare name.
+pub(crate) fn folder_of(path: &str) -> Path<'_> {
+    match Path::new(path).parent() {
+        Some(folder) if !folder.as_os_str().is_empty() => folder,
+        _ => Path::new("."),
     }
 }

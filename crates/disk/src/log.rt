@@ -57,13 +57,6 @@ impl LoggedFile {
         self.content.read(at, buf);
     }
 
-    /// A call that changes nothing. It takes no memory.
-    pub(crate) fn look(&mut self)
-        ensures { self.new ≡ listed self.old Still }
-    {
-        self.history = self.history.then(&Deed::Looked);
-    }
-
     /// A write, which is done where it passes. One that does not counts as written.
     pub(crate) fn write(&mut self, at: usize, bytes: &[u8], passes: bool) -> Result<(), AllocError>
         requires { at ≤ length (state_of self.old).seen }
@@ -75,25 +68,6 @@ impl LoggedFile {
         } else {
             self.fail_write(at, bytes.len())
         }
-    }
-
-    /// A sync, which is done where it passes. It takes no memory.
-    pub(crate) fn sync(&mut self, passes: bool)
-        ensures { self.new ≡ listed self.old (sync_if passes) }
-    {
-        if passes {
-            self.do_sync();
-        } else {
-            self.look();
-        }
-    }
-
-    /// A crash, after which there was no call yet. It takes no memory.
-    pub(crate) fn crash(&mut self, pick: Pick)
-        ensures { self.new ≡ begun (left (state_of self.old) pick) }
-    {
-        self.content.crash(pick);
-        self.history = self.history.then(&Deed::Began(self.content.seen()));
     }
 
     /// A write that passes.
@@ -117,11 +91,37 @@ impl LoggedFile {
         Ok(())
     }
 
+    /// A sync, which is done where it passes. It takes no memory.
+    pub(crate) fn sync(&mut self, passes: bool)
+        ensures { self.new ≡ listed self.old (sync_if passes) }
+    {
+        if passes {
+            self.do_sync();
+        } else {
+            self.look();
+        }
+    }
+
     /// A sync that passes.
     fn do_sync(&mut self)
         ensures { self.new ≡ listed self.old Synced }
     {
         self.content.sync();
         self.history = self.history.then(&Deed::Synced);
+    }
+
+    /// A call that changes nothing. It takes no memory.
+    pub(crate) fn look(&mut self)
+        ensures { self.new ≡ listed self.old Still }
+    {
+        self.history = self.history.then(&Deed::Looked);
+    }
+
+    /// A crash, after which there was no call yet. It takes no memory.
+    pub(crate) fn crash(&mut self, pick: Pick)
+        ensures { self.new ≡ begun (left (state_of self.old) pick) }
+    {
+        self.content.crash(pick);
+        self.history = self.history.then(&Deed::Began(self.content.seen()));
     }
 }

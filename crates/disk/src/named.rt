@@ -25,26 +25,6 @@ pub(crate) struct NamedFile<F: SystemFile> {
     pub(crate) first: Option<Arc<FirstError>>,
 }
 
-/// The answer to a call of the system, whose error is kept for who wants to know it.
-fn answer<T: Drop>(
-    failures: &mut GhostRecord<Failures>,
-    first: &Option<Arc<FirstError>>,
-    done: io::Result<T>,
-) -> Result<T, DeviceFault>
-    ensures ok { IfOk result (λ value. done ≡ Ok value) }
-    ensures err { OnErr result (OnErr done (Unit {0})) }
-    ensures cause { CountsFailures failures.old.value failures.new.value result }
-{
-    match done {
-        Ok(value) => Ok(value),
-        Err(error) => {
-            note_for(first, error);
-            *failures = failures.then(&Failure);
-            Err(DeviceFault)
-        }
-    }
-}
-
 impl<F: SystemFile> NamedFile<F> {
     /// A file that was just opened, with its folder.
     pub(crate) fn new(file: F, folder: F) -> NamedFile<F>
@@ -125,6 +105,26 @@ impl<F: SystemFile> NamedFile<F> {
                 Ok(())
             }
             Err(fault) => Err(fault),
+        }
+    }
+}
+
+/// The answer to a call of the system, whose error is kept for who wants to know it.
+fn answer<T: Drop>(
+    failures: &mut GhostRecord<Failures>,
+    first: &Option<Arc<FirstError>>,
+    done: io::Result<T>,
+) -> Result<T, DeviceFault>
+    ensures ok { IfOk result (λ value. done ≡ Ok value) }
+    ensures err { OnErr result (OnErr done (Unit {0})) }
+    ensures cause { CountsFailures failures.old.value failures.new.value result }
+{
+    match done {
+        Ok(value) => Ok(value),
+        Err(error) => {
+            note_for(first, error);
+            *failures = failures.then(&Failure);
+            Err(DeviceFault)
         }
     }
 }

@@ -8,16 +8,6 @@ use std::io::{self, ErrorKind};
 /// The most times that a call is made again after a signal interrupted it.
 const TRIES: u32 = 1_000_000;
 
-/// Returns `true` if a signal interrupted the call.
-fn is_interrupted<T>(done: &io::Result<T>) -> bool
-    ensures { IfOk done.now (λ _. result ≡ false) }
-{
-    match done {
-        Ok(_) => false,
-        Err(error) => error.kind() == ErrorKind::Interrupted,
-    }
-}
-
 /// Returns how many bytes the file has.
 pub(crate) fn length_of<F: SystemFile>(file: &mut F) -> io::Result<usize>
     ensures ok { IfOk result (λ n. F.done file.new ≡ with_told (F.done file.old) n) }
@@ -46,38 +36,6 @@ pub(crate) fn settle<F: SystemFile>(file: &mut F) -> io::Result<()>
     Err(io::Error::from(ErrorKind::Interrupted))
 }
 
-/// Reads once, and again where a signal interrupted it.
-fn read_some<F: SystemFile>(file: &mut F, at: usize, buf: &mut [u8]) -> io::Result<usize>
-    ensures within { IfOk result (λ n. n ≤ length buf.new) }
-    ensures ok { IfOk result
-        (λ n. F.done file.new ≡ with_read (F.done file.old) at (take n buf.new)) }
-    ensures err { OnErr result (F.done file.new ≡ F.done file.old) }
-{
-    for _ in 0..TRIES {
-        let done = file.read_at(at, buf);
-        if !is_interrupted(&done) {
-            return done;
-        }
-    }
-    Err(io::Error::from(ErrorKind::Interrupted))
-}
-
-/// Writes once, and again where a signal interrupted it.
-fn write_some<F: SystemFile>(file: &mut F, at: usize, bytes: &[u8]) -> io::Result<usize>
-    ensures within { IfOk result (λ n. n ≤ length bytes.now) }
-    ensures ok { IfOk result
-        (λ n. F.done file.new ≡ with_written (F.done file.old) at (take n bytes.now)) }
-    ensures err { OnErr result (F.done file.new ≡ F.done file.old) }
-{
-    for _ in 0..TRIES {
-        let done = file.write_at(at, bytes);
-        if !is_interrupted(&done) {
-            return done;
-        }
-    }
-    Err(io::Error::from(ErrorKind::Interrupted))
-}
-
 /// Fills the buffer with the bytes from a place on. Where the file ends before, that is an error.
 pub(crate) fn read_whole<F: SystemFile>(file: &mut F, at: usize, buf: &mut [u8]) -> io::Result<()>
     ensures ok { OnOk result (F.done file.new ≡ with_read (F.done file.old) at buf.new) }
@@ -94,6 +52,22 @@ pub(crate) fn read_whole<F: SystemFile>(file: &mut F, at: usize, buf: &mut [u8])
         done += count;
     }
     Ok(())
+}
+
+/// Reads once, and again where a signal interrupted it.
+fn read_some<F: SystemFile>(file: &mut F, at: usize, buf: &mut [u8]) -> io::Result<usize>
+    ensures within { IfOk result (λ n. n ≤ length buf.new) }
+    ensures ok { IfOk result
+        (λ n. F.done file.new ≡ with_read (F.done file.old) at (take n buf.new)) }
+    ensures err { OnErr result (F.done file.new ≡ F.done file.old) }
+{
+    for _ in 0..TRIES {
+        let done = file.read_at(at, buf);
+        if !is_interrupted(&done) {
+            return done;
+        }
+    }
+    Err(io::Error::from(ErrorKind::Interrupted))
 }
 
 /// Writes all of the bytes from a place on. After an error a beginning of them was written.
@@ -118,4 +92,30 @@ pub(crate) fn write_whole<F: SystemFile>(file: &mut F, at: usize, bytes: &[u8]) 
         rest = &rest[count..];
     }
     Ok(())
+}
+
+/// Writes once, and again where a signal interrupted it.
+fn write_some<F: SystemFile>(file: &mut F, at: usize, bytes: &[u8]) -> io::Result<usize>
+    ensures within { IfOk result (λ n. n ≤ length bytes.now) }
+    ensures ok { IfOk result
+        (λ n. F.done file.new ≡ with_written (F.done file.old) at (take n bytes.now)) }
+    ensures err { OnErr result (F.done file.new ≡ F.done file.old) }
+{
+    for _ in 0..TRIES {
+        let done = file.write_at(at, bytes);
+        if !is_interrupted(&done) {
+            return done;
+        }
+    }
+    Err(io::Error::from(ErrorKind::Interrupted))
+}
+
+/// Returns `true` if a signal interrupted the call.
+fn is_interrupted<T>(done: &io::Result<T>) -> bool
+    ensures { IfOk done.now (λ _. result ≡ false) }
+{
+    match done {
+        Ok(_) => false,
+        Err(error) => error.kind() == ErrorKind::Interrupted,
+    }
 }

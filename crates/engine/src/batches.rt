@@ -41,42 +41,6 @@ pub fn batch_head(header: &Header) -> [u8; 25]
     ]
 }
 
-/// The six bytes of a record in a journal.
-#[tactic(auto, unfolding(journal::specs::Texts::record_bytes))]
-fn journal_record(noted: &Record) -> [u8; 6]
-    ensures { result ≡ record_bytes noted.now }
-{
-    match *noted {
-        Record::Said(s) => journal_statement(s),
-        Record::Decided {
-            question,
-            round,
-            bit,
-        } => {
-            let [high, low] = question.to_be_bytes();
-            [DECIDED, high, low, 0, round, u8::from(bit)]
-        }
-    }
-}
-
-/// The six bytes of a statement in a journal: its step and its value share the last one.
-fn journal_statement(s: Statement) -> [u8; 6]
-    ensures { result ≡ said_bytes s }
-{
-    s.recall();
-    let place = s.place();
-    let [high, low] = place.question().to_be_bytes();
-    let last = 16 * place.step() + byte_of_value(s.value());
-    [
-        byte_of_kind(s.kind()),
-        high,
-        low,
-        place.origin(),
-        place.round(),
-        last,
-    ]
-}
-
 /// The first write of an append of 1 to 65,535 records, seven bytes each: the batch behind a closed
 /// gate, with another closed gate behind it. It is written over the closed gate at the journal's
 /// end, and synced; then the one byte 1 is written over its first, and synced.
@@ -119,6 +83,42 @@ fn shut(alloc: Global, records: &[Record]) -> Result<Vec<u8>, AllocError>
     }
     batch.push(0)?;
     Ok(batch)
+}
+
+/// The six bytes of a record in a journal.
+#[tactic(auto, unfolding(journal::specs::Texts::record_bytes))]
+fn journal_record(noted: &Record) -> [u8; 6]
+    ensures { result ≡ record_bytes noted.now }
+{
+    match *noted {
+        Record::Said(s) => journal_statement(s),
+        Record::Decided {
+            question,
+            round,
+            bit,
+        } => {
+            let [high, low] = question.to_be_bytes();
+            [DECIDED, high, low, 0, round, u8::from(bit)]
+        }
+    }
+}
+
+/// The six bytes of a statement in a journal: its step and its value share the last one.
+fn journal_statement(s: Statement) -> [u8; 6]
+    ensures { result ≡ said_bytes s }
+{
+    s.recall();
+    let place = s.place();
+    let [high, low] = place.question().to_be_bytes();
+    let last = 16 * place.step() + byte_of_value(s.value());
+    [
+        byte_of_kind(s.kind()),
+        high,
+        low,
+        place.origin(),
+        place.round(),
+        last,
+    ]
 }
 
 /// The content of a journal's file: the records, seven bytes each, oldest first, and the place of

@@ -68,21 +68,6 @@ pub struct Switchboard {
     ended: AtomicBool,
 }
 
-/// The desk's word on a slot whose epoch doesn't run.
-#[derive(Clone, Copy, Debug, PartialEq, Eq)]
-pub enum Stored {
-    /// The slot was decided for this bit.
-    Decided(bool),
-    /// No decision is known: the epoch has to run.
-    Open,
-    /// The journal of its epoch was put away.
-    Gone,
-    /// The epoch is past the one in front of the newest, and is begun by a proposal.
-    Ahead,
-    /// The epoch is so far ahead that no proposal is taken for it.
-    Far,
-}
-
 impl Switchboard {
     /// The switchboard of this member of a chain, of which no epoch is known yet.
     pub fn new(alloc: Global, chain: Chain, me: u8) -> Switchboard {
@@ -315,4 +300,19 @@ impl Switchboard {
     pub fn is_ended(&self) -> bool {
         self.ended.load(Ordering::SeqCst)
     }
+}
+
+/// The desk's word on a slot whose epoch doesn't run.
+#[derive(Clone, Copy, Debug, PartialEq, Eq)]
+pub enum Stored {
+    /// The slot was decided for this bit.
+    Decided(bool),
+    /// No decision is known: the epoch has to run.
+    Open,
+    /// The journal of its epoch was put away.
+    Gone,
+    /// The epoch is past the one in front of the newest, and is begun by a proposal.
+    Ahead,
+    /// The epoch is so far ahead that no proposal is taken for it.
+    Far,
 }

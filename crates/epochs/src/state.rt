@@ -85,36 +85,6 @@ impl Running {
     }
 }
 
-/// Returns the least of this number and of the epochs that run.
-fn least_running(first: u64, running: &[Running]) -> u64
-    ensures { result ≡ least first (map (λ one. one.epoch) running.now) }
-{
-    let mut least = first;
-    for one in running {
-        least = least.min(one.epoch);
-    }
-    least
-}
-
-/// Returns the least of this number and of these epochs.
-fn least_of(first: u64, epochs: &[u64]) -> u64
-    ensures { result ≡ least first epochs.now }
-{
-    let mut least = first;
-    for epoch in epochs {
-        least = least.min(*epoch);
-    }
-    least
-}
-
-/// A connection that waits for an epoch that doesn't run yet.
-#[derive(Drop)]
-struct Parked {
-    epoch: u64,
-    is_link: bool,
-    arrival: Arrival,
-}
-
 /// The place to which a connection goes.
 pub(crate) enum Place<'a> {
     /// The epoch runs, and these are its doors.
@@ -161,18 +131,6 @@ impl State {
         }
     }
 
-    /// Something has changed.
-    pub(crate) fn change(&mut self) {
-        self.changes = self.changes.wrapping_add(1);
-    }
-
-    /// Returns how many epochs have a journal, or had one.
-    pub(crate) fn made(&self) -> u64
-        ensures { result ≡ length self.now.verdicts.items }
-    {
-        self.verdicts.len() as u64
-    }
-
     /// Returns the first epoch that isn't closed here: the newest, or one before it that runs or
     /// isn't done. One for which a peer asks and that doesn't run is the peer's concern.
     pub(crate) fn first_open(&self) -> u64
@@ -195,37 +153,6 @@ impl State {
         Ok(())
     }
 
-    /// The member has a proposal or a decision in this epoch. Those that it left out are to be made
-    /// up for.
-    pub(crate) fn advance(&mut self, epoch: u64) {
-        let made = self.made();
-        for missed in self.newest.saturating_add(1)..epoch.min(made) {
-            self.call(missed);
-        }
-        if epoch > self.newest {
-            self.newest = epoch;
-            self.change();
-        }
-    }
-
-    /// The epoch isn't done: somebody wants something of it. One whose journal was put away stays
-    /// done.
-    pub(crate) fn call(&mut self, epoch: u64) {
-        if !self.is_gone(epoch) && !self.undone.contains(&epoch) {
-            let _unheard = self.undone.push(epoch).is_err();
-            self.change();
-        }
-    }
-
-    /// The epoch is done.
-    fn finish(&mut self, epoch: u64) {
-        if let Some(at) = self.undone.iter().position(|one| *one == epoch) {
-            if at < self.undone.len() {
-                self.undone.remove(at);
-            }
-        }
-    }
-
     /// A peer asks for an epoch, at most for two at once. It is to ask again within five seconds.
     pub(crate) fn ask(&mut self, ask: Ask) {
         let at = self.asks.iter().position(|one| *one == ask);
@@ -242,87 +169,6 @@ impl State {
         }
     }
 
-    /// Forgets what is asked at this place.
-    fn forget_at(&mut self, at: usize) {
-        if at < self.asks.len() && at < self.heard.len() {
-            self.asks.remove(at);
-            self.heard.remove(at);
-        }
-    }
-
-    /// Nobody asks for the epoch any more.
-    fn forget_asks(&mut self, epoch: u64) {
-        for _ in 0..self.asks.len() {
-            match self.asks.iter().position(|ask| ask.epoch == epoch) {
-                Some(at) => self.forget_at(at),
-                None => return,
-            }
-        }
-    }
-
-    /// A second has passed: who asked too long ago doesn't ask any more.
-    fn tick(&mut self) {
-        self.second = self.second.saturating_add(1);
-        let oldest = self.second.saturating_sub(ASKING);
-        for _ in 0..self.asks.len() {
-            match self.heard.iter().position(|heard| *heard < oldest) {
-                Some(at) => self.forget_at(at),
-                None => return,
-            }
-        }
-    }
-
-    /// Returns what the member knows of its chain.
-    fn known(&self) -> Known<'_>
-        ensures { IsKnown self.now result }
-    {
-        Known {
-            newest: self.newest,
-            undone: self.undone.as_slice(),
-            asks: self.asks.as_slice(),
-        }
-    }
-
-    /// Returns the epoch among those that run.
-    fn running_at(&self, epoch: u64) -> Option<&Running> {
-        self.running.iter().find(|one| one.epoch == epoch)
-    }
-
-    /// The same, to be changed.
-    fn running_mut(&mut self, epoch: u64) -> Option<&mut Running> {
-        let at = self.running.iter().position(|one| one.epoch == epoch)?;
-        self.running.get_mut(at)
-    }
-
-    /// Takes the epoch out of those that run.
-    fn take_out(&mut self, epoch: u64) -> Option<Running> {
-        let at = self.running.iter().position(|one| one.epoch == epoch)?;
-        if at >= self.running.len() {
-            return None;
-        }
-        Some(self.running.swap_remove(at))
-    }
-
-    /// Returns `true` if the epoch's journal was put away.
-    fn is_gone(&self, epoch: u64) -> bool
-        ensures { result ≡ false →
-            IfSome (slice_get self.now.verdicts.items epoch)
-            (λ verdicts. 0 < length verdicts.cells.items) }
-    {
-        match self.verdicts.get(epoch as usize) {
-            Some(verdicts) => verdicts.is_gone(),
-            None => false,
-        }
-    }
-
-    /// Returns `true` if the epoch is to run, by the rules. One whose journal was put away never
-    /// does.
-    fn is_to_run(&self, chain: &Chain, epoch: u64) -> bool
-        ensures { IsTrue result → MayRun chain.now self.now epoch }
-    {
-        !self.is_gone(epoch) && chain.is_open(&self.known(), epoch)
-    }
-
     /// Returns the place to which a connection of the epoch goes.
     pub(crate) fn place_of(&self, chain: &Chain, epoch: u64) -> Place<'_> {
         match self.running_at(epoch) {
@@ -330,50 +176,6 @@ impl State {
             None if self.is_to_run(chain, epoch) => Place::IsDue,
             None => Place::Nowhere,
         }
-    }
-
-    /// Returns how many epochs behind the newest run and don't rest.
-    fn behind(&self) -> usize {
-        self.running
-            .iter()
-            .filter(|one| one.epoch < self.newest && !one.rests)
-            .count()
-    }
-
-    /// Returns how many of these aren't done here.
-    fn made_up_for(&self) -> usize {
-        self.running
-            .iter()
-            .filter(|one| one.epoch < self.newest && !one.rests)
-            .filter(|one| self.undone.iter().any(|epoch| *epoch == one.epoch))
-            .count()
-    }
-
-    /// Returns an epoch that isn't done here and that is to run for that, if there is room for one.
-    fn due_to_make_up(&self, chain: &Chain) -> Option<u64>
-        ensures { IfSome result (IsDue chain.now self.now) }
-    {
-        if self.made_up_for() >= OWN {
-            return None;
-        }
-        match self.undone.iter().find(|one| self.is_due(chain, **one)) {
-            Some(epoch) => Some(*epoch),
-            None => None,
-        }
-    }
-
-    /// Returns `true` if there is room for an epoch behind the newest.
-    fn has_room(&self) -> bool {
-        self.behind() < BEHIND && self.running.len() < MOST
-    }
-
-    /// Returns `true` if this epoch is to run, doesn't, and has room beside those that do.
-    fn is_due(&self, chain: &Chain, epoch: u64) -> bool
-        ensures { IsTrue result → IsDue chain.now self.now epoch }
-    {
-        !self.runs(epoch)
-            && self.is_to_run(chain, epoch)
-            && (epoch >= self.newest || self.has_room())
     }
 
     /// Returns an epoch that is to run and doesn't: the newest, the one in front of it, or one of
@@ -395,6 +197,58 @@ impl State {
             Some(ask) => Some(ask.epoch),
             None => None,
         }
+    }
+
+    /// Returns an epoch that isn't done here and that is to run for that, if there is room for one.
+    fn due_to_make_up(&self, chain: &Chain) -> Option<u64>
+        ensures { IfSome result (IsDue chain.now self.now) }
+    {
+        if self.made_up_for() >= OWN {
+            return None;
+        }
+        match self.undone.iter().find(|one| self.is_due(chain, **one)) {
+            Some(epoch) => Some(*epoch),
+            None => None,
+        }
+    }
+
+    /// Returns how many of these aren't done here.
+    fn made_up_for(&self) -> usize {
+        self.running
+            .iter()
+            .filter(|one| one.epoch < self.newest && !one.rests)
+            .filter(|one| self.undone.iter().any(|epoch| *epoch == one.epoch))
+            .count()
+    }
+
+    /// Returns `true` if this epoch is to run, doesn't, and has room beside those that do.
+    fn is_due(&self, chain: &Chain, epoch: u64) -> bool
+        ensures { IsTrue result → IsDue chain.now self.now epoch }
+    {
+        !self.runs(epoch)
+            && self.is_to_run(chain, epoch)
+            && (epoch >= self.newest || self.has_room())
+    }
+
+    /// Returns `true` if the epoch is to run, by the rules. One whose journal was put away never
+    /// does.
+    fn is_to_run(&self, chain: &Chain, epoch: u64) -> bool
+        ensures { IsTrue result → MayRun chain.now self.now epoch }
+    {
+        !self.is_gone(epoch) && chain.is_open(&self.known(), epoch)
+    }
+
+    /// Returns `true` if there is room for an epoch behind the newest.
+    fn has_room(&self) -> bool {
+        self.behind() < BEHIND && self.running.len() < MOST
+    }
+
+    /// Returns how many epochs behind the newest run and don't rest.
+    fn behind(&self) -> usize {
+        self.running
+            .iter()
+            .filter(|one| one.epoch < self.newest && !one.rests)
+            .count()
     }
 
     /// The epoch begins to run. Its journal is made, and those of epochs before it that were left
@@ -424,21 +278,6 @@ impl State {
                 doors.clients.put(rt, one.arrival);
             }
         }
-    }
-
-    /// Parks a connection until its epoch runs. It is closed if too many wait.
-    pub(crate) fn park(&mut self, epoch: u64, is_link: bool, arrival: Arrival) {
-        if self.parked.len() < PARKED {
-            let _closed = self
-                .parked
-                .push(Parked {
-                    epoch,
-                    is_link,
-                    arrival,
-                })
-                .is_err();
-        }
-        self.change();
     }
 
     /// The epoch's member listens.
@@ -480,6 +319,30 @@ impl State {
         self.change();
     }
 
+    /// Takes the epoch out of those that run.
+    fn take_out(&mut self, epoch: u64) -> Option<Running> {
+        let at = self.running.iter().position(|one| one.epoch == epoch)?;
+        if at >= self.running.len() {
+            return None;
+        }
+        Some(self.running.swap_remove(at))
+    }
+
+    /// Parks a connection until its epoch runs. It is closed if too many wait.
+    pub(crate) fn park(&mut self, epoch: u64, is_link: bool, arrival: Arrival) {
+        if self.parked.len() < PARKED {
+            let _closed = self
+                .parked
+                .push(Parked {
+                    epoch,
+                    is_link,
+                    arrival,
+                })
+                .is_err();
+        }
+        self.change();
+    }
+
     /// Notes how an epoch stands that runs. One without progress for ten seconds is done if nothing
     /// of it is open here, and nobody asks for it any more. Returns `true` if it rests.
     pub(crate) fn report(&mut self, epoch: u64, report: Report) -> bool {
@@ -511,12 +374,102 @@ impl State {
         rests
     }
 
+    /// A second has passed: who asked too long ago doesn't ask any more.
+    fn tick(&mut self) {
+        self.second = self.second.saturating_add(1);
+        let oldest = self.second.saturating_sub(ASKING);
+        for _ in 0..self.asks.len() {
+            match self.heard.iter().position(|heard| *heard < oldest) {
+                Some(at) => self.forget_at(at),
+                None => return,
+            }
+        }
+    }
+
+    /// The same, to be changed.
+    fn running_mut(&mut self, epoch: u64) -> Option<&mut Running> {
+        let at = self.running.iter().position(|one| one.epoch == epoch)?;
+        self.running.get_mut(at)
+    }
+
+    /// Nobody asks for the epoch any more.
+    fn forget_asks(&mut self, epoch: u64) {
+        for _ in 0..self.asks.len() {
+            match self.asks.iter().position(|ask| ask.epoch == epoch) {
+                Some(at) => self.forget_at(at),
+                None => return,
+            }
+        }
+    }
+
+    /// Forgets what is asked at this place.
+    fn forget_at(&mut self, at: usize) {
+        if at < self.asks.len() && at < self.heard.len() {
+            self.asks.remove(at);
+            self.heard.remove(at);
+        }
+    }
+
+    /// The epoch is done.
+    fn finish(&mut self, epoch: u64) {
+        if let Some(at) = self.undone.iter().position(|one| *one == epoch) {
+            if at < self.undone.len() {
+                self.undone.remove(at);
+            }
+        }
+    }
+
+    /// The member has a proposal or a decision in this epoch. Those that it left out are to be made
+    /// up for.
+    pub(crate) fn advance(&mut self, epoch: u64) {
+        let made = self.made();
+        for missed in self.newest.saturating_add(1)..epoch.min(made) {
+            self.call(missed);
+        }
+        if epoch > self.newest {
+            self.newest = epoch;
+            self.change();
+        }
+    }
+
+    /// Returns how many epochs have a journal, or had one.
+    pub(crate) fn made(&self) -> u64
+        ensures { result ≡ length self.now.verdicts.items }
+    {
+        self.verdicts.len() as u64
+    }
+
+    /// The epoch isn't done: somebody wants something of it. One whose journal was put away stays
+    /// done.
+    pub(crate) fn call(&mut self, epoch: u64) {
+        if !self.is_gone(epoch) && !self.undone.contains(&epoch) {
+            let _unheard = self.undone.push(epoch).is_err();
+            self.change();
+        }
+    }
+
+    /// Something has changed.
+    pub(crate) fn change(&mut self) {
+        self.changes = self.changes.wrapping_add(1);
+    }
+
     /// Returns `true` if an epoch that runs is to end: by the rules it isn't open.
     pub(crate) fn is_over(&self, chain: &Chain, epoch: u64) -> bool
         ensures { result ≡ false → (known : Known) → IsKnown self.now known →
             IsOpenEpoch (chain_size chain.now) known epoch }
     {
         !chain.is_open(&self.known(), epoch)
+    }
+
+    /// Returns what the member knows of its chain.
+    fn known(&self) -> Known<'_>
+        ensures { IsKnown self.now result }
+    {
+        Known {
+            newest: self.newest,
+            undone: self.undone.as_slice(),
+            asks: self.asks.as_slice(),
+        }
     }
 
     /// Returns `true` if the epoch runs.
@@ -565,4 +518,51 @@ impl State {
             None => Some(Stored::Far),
         }
     }
+
+    /// Returns the epoch among those that run.
+    fn running_at(&self, epoch: u64) -> Option<&Running> {
+        self.running.iter().find(|one| one.epoch == epoch)
+    }
+
+    /// Returns `true` if the epoch's journal was put away.
+    fn is_gone(&self, epoch: u64) -> bool
+        ensures { result ≡ false →
+            IfSome (slice_get self.now.verdicts.items epoch)
+            (λ verdicts. 0 < length verdicts.cells.items) }
+    {
+        match self.verdicts.get(epoch as usize) {
+            Some(verdicts) => verdicts.is_gone(),
+            None => false,
+        }
+    }
+}
+
+/// A connection that waits for an epoch that doesn't run yet.
+#[derive(Drop)]
+struct Parked {
+    epoch: u64,
+    is_link: bool,
+    arrival: Arrival,
+}
+
+/// Returns the least of this number and of the epochs that run.
+fn least_running(first: u64, running: &[Running]) -> u64
+    ensures { result ≡ least first (map (λ one. one.epoch) running.now) }
+{
+    let mut least = first;
+    for one in running {
+        least = least.min(one.epoch);
+    }
+    least
+}
+
+/// Returns the least of this number and of these epochs.
+fn least_of(first: u64, epochs: &[u64]) -> u64
+    ensures { result ≡ least first epochs.now }
+{
+    let mut least = first;
+    for epoch in epochs {
+        least = least.min(*epoch);
+    }
+    least
 }

@@ -51,84 +51,6 @@ pub struct SlotLine<'a> {
     pub rest: &'a [u8],
 }
 
-/// Returns the word that such a line begins with, and what stands behind it.
-fn verb_of(line: &[u8]) -> Option<(Verb, &[u8])>
-    ensures { IfSome result (λ found. line.now ≡ verb_text found.0 ++ found.1.now) }
-{
-    if let Some(rest) = behind(line, "PROPOSE ") {
-        return Some((Verb::Propose, rest));
-    }
-    if let Some(rest) = behind(line, "ASK ") {
-        return Some((Verb::Ask, rest));
-    }
-    if let Some(rest) = behind(line, "AWAIT ") {
-        return Some((Verb::Await, rest));
-    }
-    if let Some(rest) = behind(line, "TRANSCRIPT ") {
-        return Some((Verb::Transcript, rest));
-    }
-    match behind(line, "STATE ") {
-        Some(rest) => Some((Verb::State, rest)),
-        None => None,
-    }
-}
-
-/// Returns how many decimal digits these bytes begin with.
-fn digits_of(text: &[u8]) -> usize
-    ensures { result ≤ length text.now }
-{
-    match text.iter().position(|byte| !byte.is_ascii_digit()) {
-        Some(count) => count.min(text.len()),
-        None => text.len(),
-    }
-}
-
-/// Returns the slot that a line names. `None` if it is no line that names one in one to 20 decimal
-/// digits: the desk answers it as it stands.
-pub fn slot_line(line: &[u8]) -> Option<SlotLine<'_>>
-    ensures { IfSome result (NamesSlot line.now) }
-{
-    let (verb, text) = verb_of(line)?;
-    let count = digits_of(text);
-    if count == 0 || count > DIGITS {
-        return None;
-    }
-    Some(SlotLine {
-        verb,
-        slot: number(&text[..count]),
-        rest: &text[count..],
-    })
-}
-
-/// Returns the number from which on a line asks for decisions, if it asks for that.
-pub fn follow_line(line: &[u8]) -> Option<u64> {
-    let text = behind(line, "FOLLOW ")?;
-    let count = digits_of(text);
-    if count > DIGITS || !matches!(&text[count..], [] | [b'\r']) {
-        return None;
-    }
-    number(&text[..count])
-}
-
-/// Returns `true` if a line asks which epochs are closed.
-pub fn asks_epochs(line: &[u8]) -> bool
-    ensures { IsTrue result ↔ ((line.now ≡ codes "EPOCHS") ⊎ (line.now ≡ codes "EPOCHS\r")) }
-{
-    is(line, "EPOCHS") || is(line, "EPOCHS\r")
-}
-
-/// Returns the reply: the first epoch that isn't closed, and the newest.
-pub fn epochs_reply(first: u64, newest: u64) -> Said {
-    let mut digits = Buffer::new();
-    let mut said = Said::nothing();
-    said.extend(b"EPOCHS ");
-    said.extend(digits.format(first).as_bytes());
-    said.extend(b" ");
-    said.extend(digits.format(newest).as_bytes());
-    said.extend(b"\n");
-    said
-}
-
 impl SlotLine<'_> {
     /// Returns the line for the desk of the slot's epoch: the slot is written as that question of
     /// it.
@@ -155,4 +77,82 @@ impl SlotLine<'_> {
         self.verb == Verb::Propose
             && matches!(self.rest, [b' ', b'0' | b'1'] | [b' ', b'0' | b'1', b'\r'])
     }
+}
+
+/// Returns the slot that a line names. `None` if it is no line that names one in one to 20 decimal
+/// digits: the desk answers it as it stands.
+pub fn slot_line(line: &[u8]) -> Option<SlotLine<'_>>
+    ensures { IfSome result (NamesSlot line.now) }
+{
+    let (verb, text) = verb_of(line)?;
+    let count = digits_of(text);
+    if count == 0 || count > DIGITS {
+        return None;
+    }
+    Some(SlotLine {
+        verb,
+        slot: number(&text[..count]),
+        rest: &text[count..],
+    })
+}
+
+/// Returns the word that such a line begins with, and what stands behind it.
+fn verb_of(line: &[u8]) -> Option<(Verb, &[u8])>
+    ensures { IfSome result (λ found. line.now ≡ verb_text found.0 ++ found.1.now) }
+{
+    if let Some(rest) = behind(line, "PROPOSE ") {
+        return Some((Verb::Propose, rest));
+    }
+    if let Some(rest) = behind(line, "ASK ") {
+        return Some((Verb::Ask, rest));
+    }
+    if let Some(rest) = behind(line, "AWAIT ") {
+        return Some((Verb::Await, rest));
+    }
+    if let Some(rest) = behind(line, "TRANSCRIPT ") {
+        return Some((Verb::Transcript, rest));
+    }
+    match behind(line, "STATE ") {
+        Some(rest) => Some((Verb::State, rest)),
+        None => None,
+    }
+}
+
+/// Returns the number from which on a line asks for decisions, if it asks for that.
+pub fn follow_line(line: &[u8]) -> Option<u64> {
+    let text = behind(line, "FOLLOW ")?;
+    let count = digits_of(text);
+    if count > DIGITS || !matches!(&text[count..], [] | [b'\r']) {
+        return None;
+    }
+    number(&text[..count])
+}
+
+/// Returns how many decimal digits these bytes begin with.
+fn digits_of(text: &[u8]) -> usize
+    ensures { result ≤ length text.now }
+{
+    match text.iter().position(|byte| !byte.is_ascii_digit()) {
+        Some(count) => count.min(text.len()),
+        None => text.len(),
+    }
+}
+
+/// Returns `true` if a line asks which epochs are closed.
+pub fn asks_epochs(line: &[u8]) -> bool
+    ensures { IsTrue result ↔ ((line.now ≡ codes "EPOCHS") ⊎ (line.now ≡ codes "EPOCHS\r")) }
+{
+    is(line, "EPOCHS") || is(line, "EPOCHS\r")
+}
+
+/// Returns the reply: the first epoch that isn't closed, and the newest.
+pub fn epochs_reply(first: u64, newest: u64) -> Said {
+    let mut digits = Buffer::new();
+    let mut said = Said::nothing();
+    said.extend(b"EPOCHS ");
+    said.extend(digits.format(first).as_bytes());
+    said.extend(b" ");
+    said.extend(digits.format(newest).as_bytes());
+    said.extend(b"\n");
+    said
 }

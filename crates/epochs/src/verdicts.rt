@@ -17,12 +17,6 @@ pub struct Verdicts {
     order: Vec<u16>,
 }
 
-/// Returns `true` if the member said by this that a bit was proposed to it.
-fn is_own_proposal(me: u8, said: Statement) -> bool {
-    let place = said.place();
-    said.kind() == Kind::Initial && place.origin() == me && place.round() == 1 && place.step() == 1
-}
-
 impl Verdicts {
     /// Those of an epoch whose journal was put away.
     pub fn gone(alloc: Global) -> Verdicts {
@@ -66,6 +60,45 @@ impl Verdicts {
         Ok(verdicts)
     }
 
+    /// Returns `true` if a question was proposed to this member and isn't decided.
+    pub fn is_undone(&self) -> bool {
+        self.cells.iter().any(|cell| *cell == 3)
+    }
+
+    /// Returns `true` if the epoch's journal was put away.
+    pub(crate) fn is_gone(&self) -> bool
+        ensures { result ≡ false → 0 < length self.now.cells.items }
+    {
+        self.cells.is_empty()
+    }
+
+    /// Returns `true` if a question is decided.
+    pub(crate) fn has_decisions(&self) -> bool {
+        !self.order.is_empty()
+    }
+
+    /// Returns `true` if some are decided, or none is, and some aren't.
+    pub(crate) fn is_partial(&self) -> bool {
+        self.order.len() < self.cells.len()
+    }
+
+    /// Returns the question that was decided at this place of the journal's decisions, and its bit.
+    pub(crate) fn decided_at(&self, place: u16) -> Option<(u16, bool)> {
+        let question = *self.order.get(usize::from(place))?;
+        Some((question, self.of(question)?))
+    }
+
+    /// Returns the decision of the question, if it is known.
+    pub(crate) fn of(&self, question: u16) -> Option<bool>
+        ensures { result ≡ verdict_at self.now question }
+    {
+        match self.cells.get(usize::from(question)) {
+            Some(1) => Some(false),
+            Some(2) => Some(true),
+            _ => None,
+        }
+    }
+
     /// The question was decided for this bit. Of several decisions the first counts.
     fn decide(&mut self, question: u16, bit: bool) -> Result<(), Memory>
         ensures first { (verdict_at self.old question ≡ None → ⊥) → self.new ≡ self.old }
@@ -98,43 +131,10 @@ impl Verdicts {
             }
         }
     }
+}
 
-    /// Returns `true` if a question was proposed to this member and isn't decided.
-    pub fn is_undone(&self) -> bool {
-        self.cells.iter().any(|cell| *cell == 3)
-    }
-
-    /// Returns the decision of the question, if it is known.
-    pub(crate) fn of(&self, question: u16) -> Option<bool>
-        ensures { result ≡ verdict_at self.now question }
-    {
-        match self.cells.get(usize::from(question)) {
-            Some(1) => Some(false),
-            Some(2) => Some(true),
-            _ => None,
-        }
-    }
-
-    /// Returns `true` if the epoch's journal was put away.
-    pub(crate) fn is_gone(&self) -> bool
-        ensures { result ≡ false → 0 < length self.now.cells.items }
-    {
-        self.cells.is_empty()
-    }
-
-    /// Returns `true` if a question is decided.
-    pub(crate) fn has_decisions(&self) -> bool {
-        !self.order.is_empty()
-    }
-
-    /// Returns `true` if some are decided, or none is, and some aren't.
-    pub(crate) fn is_partial(&self) -> bool {
-        self.order.len() < self.cells.len()
-    }
-
-    /// Returns the question that was decided at this place of the journal's decisions, and its bit.
-    pub(crate) fn decided_at(&self, place: u16) -> Option<(u16, bool)> {
-        let question = *self.order.get(usize::from(place))?;
-        Some((question, self.of(question)?))
-    }
+/// Returns `true` if the member said by this that a bit was proposed to it.
+fn is_own_proposal(me: u8, said: Statement) -> bool {
+    let place = said.place();
+    said.kind() == Kind::Initial && place.origin() == me && place.round() == 1 && place.step() == 1
 }

@@ -44,34 +44,21 @@ pub enum Event {
     },
 }
 
-/// Returns the name of an event.
-fn event_name(event: &Event) -> &'static str
-    ensures { result.now ≡ event_name event.now }
+/// Returns the text of an event at this position.
+///
+/// # Errors
+///
+/// [`AllocError`] if an allocation failed.
+pub fn event_text(alloc: Global, at: Position, event: &Event) -> Result<String, AllocError>
+    ensures { IfOk result (λ text. string_bytes text ≡ event_text at event.now) }
 {
-    match *event {
-        Event::Decided { .. } => "decision",
-        Event::Proposed(_) => "proposed",
-        Event::Spent(_) => "spent",
-        Event::Member { .. } => "member",
-        Event::Contradiction { .. } => "contradiction",
-    }
-}
-
-/// Returns the milliseconds that a decision took, if that is known.
-fn ms_text(alloc: Global, ms: Option<u32>) -> Result<String, AllocError>
-    ensures { IfOk result (λ text. string_bytes text ≡ ms_text ms) }
-{
-    match ms {
-        None => String::from_str(alloc, "null"),
-        Some(ms) => format!(in alloc; "{ms}"),
-    }
-}
-
-/// Returns the data of an event of one question.
-fn question_data(alloc: Global, question: u64) -> Result<String, AllocError>
-    ensures { IfOk result (λ text. string_bytes text ≡ question_data question) }
-{
-    format!(in alloc; "{{\"question\":{question}}}")
+    let data = event_data(alloc, event)?;
+    format!(in alloc;
+        "id: {}.{}\nevent: {}\ndata: {data}\n\n",
+        at.life,
+        at.number,
+        event_name(event)
+    )
 }
 
 /// Returns the data of an event.
@@ -108,21 +95,34 @@ fn event_data(alloc: Global, event: &Event) -> Result<String, AllocError>
     }
 }
 
-/// Returns the text of an event at this position.
-///
-/// # Errors
-///
-/// [`AllocError`] if an allocation failed.
-pub fn event_text(alloc: Global, at: Position, event: &Event) -> Result<String, AllocError>
-    ensures { IfOk result (λ text. string_bytes text ≡ event_text at event.now) }
+/// Returns the milliseconds that a decision took, if that is known.
+fn ms_text(alloc: Global, ms: Option<u32>) -> Result<String, AllocError>
+    ensures { IfOk result (λ text. string_bytes text ≡ ms_text ms) }
 {
-    let data = event_data(alloc, event)?;
-    format!(in alloc;
-        "id: {}.{}\nevent: {}\ndata: {data}\n\n",
-        at.life,
-        at.number,
-        event_name(event)
-    )
+    match ms {
+        None => String::from_str(alloc, "null"),
+        Some(ms) => format!(in alloc; "{ms}"),
+    }
+}
+
+/// Returns the data of an event of one question.
+fn question_data(alloc: Global, question: u64) -> Result<String, AllocError>
+    ensures { IfOk result (λ text. string_bytes text ≡ question_data question) }
+{
+    format!(in alloc; "{{\"question\":{question}}}")
+}
+
+/// Returns the name of an event.
+fn event_name(event: &Event) -> &'static str
+    ensures { result.now ≡ event_name event.now }
+{
+    match *event {
+        Event::Decided { .. } => "decision",
+        Event::Proposed(_) => "proposed",
+        Event::Spent(_) => "spent",
+        Event::Member { .. } => "member",
+        Event::Contradiction { .. } => "contradiction",
+    }
 }
 
 /// Returns the text that tells a follower to load everything anew, and the position from which it

@@ -16,11 +16,15 @@ pub(crate) fn move_head(heads: &mut Vec<u64>, member: u8, slot: u64)
     }
 }
 
-/// Returns how many members have come to a slot.
-fn count_at(heads: &[u64], slot: u64) -> usize
-    ensures { result ≡ count_at heads.now slot }
+/// Returns the greatest slot to which more than t members have come; 0 if there is none.
+pub(crate) fn common_head(heads: &[u64], t: u8) -> u64
+    ensures { IsCommonHead t heads.now result }
 {
-    heads.iter().filter(|head| slot <= **head).count()
+    let mut common = 0;
+    for head in heads {
+        common = raised(heads, t, common, *head);
+    }
+    common
 }
 
 /// Returns the greater of two slots, if more than t members have come to it; else the first.
@@ -36,15 +40,11 @@ fn raised(heads: &[u64], t: u8, common: u64, head: u64) -> u64
     common
 }
 
-/// Returns the greatest slot to which more than t members have come; 0 if there is none.
-pub(crate) fn common_head(heads: &[u64], t: u8) -> u64
-    ensures { IsCommonHead t heads.now result }
+/// Returns how many members have come to a slot.
+fn count_at(heads: &[u64], slot: u64) -> usize
+    ensures { result ≡ count_at heads.now slot }
 {
-    let mut common = 0;
-    for head in heads {
-        common = raised(heads, t, common, *head);
-    }
-    common
+    heads.iter().filter(|head| slot <= **head).count()
 }
 
 /// Returns the first slot of a window of four quarters, once the common head is this one.

@@ -8,17 +8,22 @@ use json::{Error, Scratch, Value};
 use numerals::is;
 use std::alloc::{AllocError, Global};
 
-/// Returns the bit that a number is.
-pub(crate) fn bit_in(number: &[u8]) -> Option<bool>
-    ensures some { IfSome result (λ bit. number.now ≡ bit_text bit) }
-    ensures none { IsNone result → (bit : Bool) → number.now ≡ bit_text bit → ⊥ }
+/// Returns the bit that the body proposes.
+///
+/// # Errors
+///
+/// [`AllocError`] if an allocation failed.
+pub(crate) fn motion_of(alloc: Global, body: &[u8]) -> Result<Option<bool>, AllocError>
+    ensures some { IfOk result (λ found. IfSome found (IsMotion body.now)) }
+    ensures none { IfOk result (λ found. IsNone found → (bit : Bool) → IsMotion body.now bit → ⊥) }
 {
-    if is(number, "0") {
-        Some(false)
-    } else if is(number, "1") {
-        Some(true)
-    } else {
-        None
+    let mut scratch = Scratch::new(alloc);
+    match Value::from_slice(alloc, body, &mut scratch) {
+        Ok(value) => Ok(bit_of(&value)),
+        Err(Error::OutOfMemory) => Err(AllocError),
+        Err(Error::Invalid) => Ok(None),
+        Err(Error::TooLong) => Err(AllocError),
+        Err(Error::DuplicateKey) => Err(AllocError),
     }
 }
 
@@ -36,21 +41,16 @@ fn bit_of(value: &Value<'_>) -> Option<bool>
     }
 }
 
-/// Returns the bit that the body proposes.
-///
-/// # Errors
-///
-/// [`AllocError`] if an allocation failed.
-pub(crate) fn motion_of(alloc: Global, body: &[u8]) -> Result<Option<bool>, AllocError>
-    ensures some { IfOk result (λ found. IfSome found (IsMotion body.now)) }
-    ensures none { IfOk result (λ found. IsNone found → (bit : Bool) → IsMotion body.now bit → ⊥) }
+/// Returns the bit that a number is.
+pub(crate) fn bit_in(number: &[u8]) -> Option<bool>
+    ensures some { IfSome result (λ bit. number.now ≡ bit_text bit) }
+    ensures none { IsNone result → (bit : Bool) → number.now ≡ bit_text bit → ⊥ }
 {
-    let mut scratch = Scratch::new(alloc);
-    match Value::from_slice(alloc, body, &mut scratch) {
-        Ok(value) => Ok(bit_of(&value)),
-        Err(Error::OutOfMemory) => Err(AllocError),
-        Err(Error::Invalid) => Ok(None),
-        Err(Error::TooLong) => Err(AllocError),
-        Err(Error::DuplicateKey) => Err(AllocError),
+    if is(number, "0") {
+        Some(false)
+    } else if is(number, "1") {
+        Some(true)
+    } else {
+        None
     }
 }

@@ -19,23 +19,16 @@ pub struct Position {
     pub number: u64,
 }
 
-/// Returns the index of the first such byte.
-fn place_of(text: &[u8], mark: u8) -> Option<usize>
-    ensures value { result ≡ position_from (λ byte. byte == mark) 0 text.now }
-    ensures within { IfSome result (λ at. at < length text.now) }
+/// Returns the seconds that the request waits for a decision: 0 without a query, else as `wait=`
+/// says, 60 at most.
+pub(crate) fn wait_of(query: &[u8]) -> Option<u16>
+    ensures some { IfSome result (IsWait query.now) }
+    ensures none { IsNone result → (wait : ℕ) → IsWait query.now wait → ⊥ }
 {
-    text.iter().position(|byte| *byte == mark)
-}
-
-/// Returns what stands before the first such byte and after it.
-fn cut_at(text: &[u8], mark: u8) -> Option<(&[u8], &[u8])>
-    ensures { MatchOption result (Lacks mark text.now)
-        (λ parts. (text.now ≡ parts.0.now ++ mark ∷ parts.1.now) × Lacks mark parts.0.now) }
-{
-    match place_of(text, mark) {
-        Some(place) => Some((&text[..place], &text[place + 1..])),
-        None => None,
+    if query.is_empty() {
+        return Some(0);
     }
+    timed(query)
 }
 
 /// Returns the seconds that `wait=` says, 60 at most.
@@ -52,16 +45,55 @@ fn timed(query: &[u8]) -> Option<u16>
     }
 }
 
-/// Returns the seconds that the request waits for a decision: 0 without a query, else as `wait=`
-/// says, 60 at most.
-pub(crate) fn wait_of(query: &[u8]) -> Option<u16>
-    ensures some { IfSome result (IsWait query.now) }
-    ensures none { IsNone result → (wait : ℕ) → IsWait query.now wait → ⊥ }
+/// Returns the first question that is asked for and the one after the last: all without a query,
+/// else as `from=A&to=B` says.
+pub(crate) fn range_of(questions: u64, query: &[u8]) -> Option<(u64, u64)>
+    ensures some { IfSome result (λ found. IsRange questions query.now found.0 found.1) }
+    ensures none { IsNone result → (from to : ℕ) → IsRange questions query.now from to → ⊥ }
 {
     if query.is_empty() {
-        return Some(0);
+        return Some((0, questions));
     }
-    timed(query)
+    named_range(questions, query)
+}
+
+/// Returns the range of questions that the query names, if they exist.
+fn named_range(questions: u64, query: &[u8]) -> Option<(u64, u64)>
+    ensures some { IfSome result (λ found. IsNamed questions query.now found.0 found.1) }
+    ensures none { IsNone result → (from to : ℕ) → IsNamed questions query.now from to → ⊥ }
+{
+    match bounds_of(query) {
+        Some((from, to)) => {
+            if are_within(from, to, questions) {
+                Some((from, to))
+            } else {
+                None
+            }
+        }
+        None => None,
+    }
+}
+
+/// Returns the numbers of `from=A&to=B`.
+fn bounds_of(query: &[u8]) -> Option<(u64, u64)>
+    ensures some { IfSome result (λ found. AreBounds query.now found.0 found.1) }
+    ensures exact { (from to : ℕ) → AreBounds query.now from to → result ≡ Some (from, to) }
+{
+    match behind(query, "from=") {
+        Some(rest) => rest_bounds(rest),
+        None => None,
+    }
+}
+
+/// Returns the numbers of `A&to=B`.
+fn rest_bounds(rest: &[u8]) -> Option<(u64, u64)>
+    ensures some { IfSome result (λ found. AreBoundsOf rest.now found.0 found.1) }
+    ensures exact { (from to : ℕ) → AreBoundsOf rest.now from to → result ≡ Some (from, to) }
+{
+    match both_words(rest) {
+        Some((first, second)) => both_numbers(first, second),
+        None => None,
+    }
 }
 
 /// Returns the words before and after `&to=`.
@@ -95,28 +127,6 @@ fn both_numbers(first: &[u8], second: &[u8]) -> Option<(u64, u64)>
     }
 }
 
-/// Returns the numbers of `A&to=B`.
-fn rest_bounds(rest: &[u8]) -> Option<(u64, u64)>
-    ensures some { IfSome result (λ found. AreBoundsOf rest.now found.0 found.1) }
-    ensures exact { (from to : ℕ) → AreBoundsOf rest.now from to → result ≡ Some (from, to) }
-{
-    match both_words(rest) {
-        Some((first, second)) => both_numbers(first, second),
-        None => None,
-    }
-}
-
-/// Returns the numbers of `from=A&to=B`.
-fn bounds_of(query: &[u8]) -> Option<(u64, u64)>
-    ensures some { IfSome result (λ found. AreBounds query.now found.0 found.1) }
-    ensures exact { (from to : ℕ) → AreBounds query.now from to → result ≡ Some (from, to) }
-{
-    match behind(query, "from=") {
-        Some(rest) => rest_bounds(rest),
-        None => None,
-    }
-}
-
 /// Returns `true` if the bounds are in order and the questions exist.
 fn are_within(from: u64, to: u64, questions: u64) -> bool
     ensures { IsTrue result ↔ ((from ≤ to) × (to ≤ questions)) }
@@ -124,44 +134,23 @@ fn are_within(from: u64, to: u64, questions: u64) -> bool
     from <= to && to <= questions
 }
 
-/// Returns the range of questions that the query names, if they exist.
-fn named_range(questions: u64, query: &[u8]) -> Option<(u64, u64)>
-    ensures some { IfSome result (λ found. IsNamed questions query.now found.0 found.1) }
-    ensures none { IsNone result → (from to : ℕ) → IsNamed questions query.now from to → ⊥ }
+/// Returns the position from which a follower goes on: that of the last event that it saw, or else
+/// that of the query. `None` if they name none.
+pub(crate) fn after_of(query: &[u8], last: &[u8]) -> Option<Position>
+    ensures { IfSome result (IsAfter query.now last.now) }
 {
-    match bounds_of(query) {
-        Some((from, to)) => {
-            if are_within(from, to, questions) {
-                Some((from, to))
-            } else {
-                None
-            }
-        }
-        None => None,
+    if last.is_empty() {
+        return after_query(query);
     }
+    position_of(last)
 }
 
-/// Returns the first question that is asked for and the one after the last: all without a query,
-/// else as `from=A&to=B` says.
-pub(crate) fn range_of(questions: u64, query: &[u8]) -> Option<(u64, u64)>
-    ensures some { IfSome result (λ found. IsRange questions query.now found.0 found.1) }
-    ensures none { IsNone result → (from to : ℕ) → IsRange questions query.now from to → ⊥ }
+/// Returns the position that `after=` names.
+fn after_query(query: &[u8]) -> Option<Position>
+    ensures { IfSome result (IsAfterQuery query.now) }
 {
-    if query.is_empty() {
-        return Some((0, questions));
-    }
-    named_range(questions, query)
-}
-
-/// Returns the two numbers that the words write.
-fn position_at(life: &[u8], place: &[u8]) -> Option<Position>
-    ensures { IfSome result (λ at. IsBelow 64 life.now at.life × IsBelow 64 place.now at.number) }
-{
-    match number(life) {
-        Some(life) => match number(place) {
-            Some(number) => Some(Position { life, number }),
-            None => None,
-        },
+    match behind(query, "after=") {
+        Some(text) => position_of(text),
         None => None,
     }
 }
@@ -176,23 +165,34 @@ fn position_of(text: &[u8]) -> Option<Position>
     }
 }
 
-/// Returns the position that `after=` names.
-fn after_query(query: &[u8]) -> Option<Position>
-    ensures { IfSome result (IsAfterQuery query.now) }
+/// Returns what stands before the first such byte and after it.
+fn cut_at(text: &[u8], mark: u8) -> Option<(&[u8], &[u8])>
+    ensures { MatchOption result (Lacks mark text.now)
+        (λ parts. (text.now ≡ parts.0.now ++ mark ∷ parts.1.now) × Lacks mark parts.0.now) }
 {
-    match behind(query, "after=") {
-        Some(text) => position_of(text),
+    match place_of(text, mark) {
+        Some(place) => Some((&text[..place], &text[place + 1..])),
         None => None,
     }
 }
 
-/// Returns the position from which a follower goes on: that of the last event that it saw, or else
-/// that of the query. `None` if they name none.
-pub(crate) fn after_of(query: &[u8], last: &[u8]) -> Option<Position>
-    ensures { IfSome result (IsAfter query.now last.now) }
+/// Returns the index of the first such byte.
+fn place_of(text: &[u8], mark: u8) -> Option<usize>
+    ensures value { result ≡ position_from (λ byte. byte == mark) 0 text.now }
+    ensures within { IfSome result (λ at. at < length text.now) }
 {
-    if last.is_empty() {
-        return after_query(query);
+    text.iter().position(|byte| *byte == mark)
+}
+
+/// Returns the two numbers that the words write.
+fn position_at(life: &[u8], place: &[u8]) -> Option<Position>
+    ensures { IfSome result (λ at. IsBelow 64 life.now at.life × IsBelow 64 place.now at.number) }
+{
+    match number(life) {
+        Some(life) => match number(place) {
+            Some(number) => Some(Position { life, number }),
+            None => None,
+        },
+        None => None,
     }
-    position_of(last)
 }

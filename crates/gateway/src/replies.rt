@@ -1,4 +1,4 @@
-//! The lines of a desk, as the gateway reads them: begin at `reply_of`, last.
+//! The lines of a desk, as the gateway reads them: begin at `reply_of`.
 
 ghost use Rattle.std.specs.Prelude.{IfSome, IsTrue};
 ghost use Rattle.gateway.specs.Replies.{AreLinks, AreQuestionAndBit, AreTwo, Says};
@@ -52,32 +52,14 @@ pub enum Reply {
     Other,
 }
 
-/// Returns the two numbers that the words write.
-fn two_numbers(words: &[u8]) -> Option<(u64, u64)>
-    ensures { IfSome result (λ found. AreTwo words.now found.0 found.1) }
+/// Returns what a line of a desk says.
+pub fn reply_of(line: &[u8]) -> Reply
+    ensures { Says line.now result }
 {
-    let (first, second) = split_at_space(words)?;
-    let first = number(first)?;
-    Some((first, number(second)?))
-}
-
-/// Returns the question and the bit that the words write.
-fn question_and_bit(words: &[u8]) -> Option<(u64, bool)>
-    ensures { IfSome result (λ found. AreQuestionAndBit words.now found.0 found.1) }
-{
-    let (digits, bit) = split_at_space(words)?;
-    let question = number(digits)?;
-    Some((question, bit_in(bit)?))
-}
-
-/// Returns the first two of the numbers that the words write.
-fn two_links(words: &[u8]) -> Option<(u64, u64)>
-    ensures { IfSome result (λ found. AreLinks words.now found.0 found.1) }
-{
-    let (first, rest) = split_at_space(words)?;
-    let (second, _rest) = split_at_space(rest)?;
-    let first = number(first)?;
-    Some((first, number(second)?))
+    match decided_reply(line) {
+        Some(reply) => reply,
+        None => other_reply(line),
+    }
 }
 
 /// Returns the decision that the line tells a follower.
@@ -90,6 +72,25 @@ fn decided_reply(line: &[u8]) -> Option<Reply>
             None => None,
         },
         None => None,
+    }
+}
+
+/// Returns the question and the bit that the words write.
+fn question_and_bit(words: &[u8]) -> Option<(u64, bool)>
+    ensures { IfSome result (λ found. AreQuestionAndBit words.now found.0 found.1) }
+{
+    let (digits, bit) = split_at_space(words)?;
+    let question = number(digits)?;
+    Some((question, bit_in(bit)?))
+}
+
+/// Returns what a line of a desk says that tells no decision.
+fn other_reply(line: &[u8]) -> Reply
+    ensures { Says line.now result }
+{
+    match up_reply(line) {
+        Some(reply) => reply,
+        None => counted_reply(line),
     }
 }
 
@@ -109,6 +110,19 @@ fn up_reply(line: &[u8]) -> Option<Reply>
     }
 }
 
+/// Returns what a line of a desk says that tells no decision and no counts.
+fn counted_reply(line: &[u8]) -> Reply
+    ensures { Says line.now result }
+{
+    match links_reply(line) {
+        Some(reply) => reply,
+        None => match epochs_reply(line) {
+            Some(reply) => reply,
+            None => short_reply(line),
+        },
+    }
+}
+
 /// Returns the links that the line tells.
 fn links_reply(line: &[u8]) -> Option<Reply>
     ensures { IfSome result (Says line.now) }
@@ -120,6 +134,16 @@ fn links_reply(line: &[u8]) -> Option<Reply>
         },
         None => None,
     }
+}
+
+/// Returns the first two of the numbers that the words write.
+fn two_links(words: &[u8]) -> Option<(u64, u64)>
+    ensures { IfSome result (λ found. AreLinks words.now found.0 found.1) }
+{
+    let (first, rest) = split_at_space(words)?;
+    let (second, _rest) = split_at_space(rest)?;
+    let first = number(first)?;
+    Some((first, number(second)?))
 }
 
 /// Returns the epochs that the line tells.
@@ -135,11 +159,23 @@ fn epochs_reply(line: &[u8]) -> Option<Reply>
     }
 }
 
-/// Returns `true` if the line is that of a member that had a proposal.
-fn is_had(line: &[u8]) -> bool
-    ensures { IsTrue result → Says line.now Have }
+/// Returns the two numbers that the words write.
+fn two_numbers(words: &[u8]) -> Option<(u64, u64)>
+    ensures { IfSome result (λ found. AreTwo words.now found.0 found.1) }
 {
-    is(line, "HAVE 0") || is(line, "HAVE 1")
+    let (first, second) = split_at_space(words)?;
+    let first = number(first)?;
+    Some((first, number(second)?))
+}
+
+/// Returns what a line says that has no number of questions, statements, links or epochs.
+fn short_reply(line: &[u8]) -> Reply
+    ensures { Says line.now result }
+{
+    match told_reply(line) {
+        Some(reply) => reply,
+        None => plain_reply(line),
+    }
 }
 
 /// Returns the decision that the line tells to one who asked for the question.
@@ -174,45 +210,9 @@ fn plain_reply(line: &[u8]) -> Reply
     Reply::Other
 }
 
-/// Returns what a line says that has no number of questions, statements, links or epochs.
-fn short_reply(line: &[u8]) -> Reply
-    ensures { Says line.now result }
+/// Returns `true` if the line is that of a member that had a proposal.
+fn is_had(line: &[u8]) -> bool
+    ensures { IsTrue result → Says line.now Have }
 {
-    match told_reply(line) {
-        Some(reply) => reply,
-        None => plain_reply(line),
-    }
-}
-
-/// Returns what a line of a desk says that tells no decision and no counts.
-fn counted_reply(line: &[u8]) -> Reply
-    ensures { Says line.now result }
-{
-    match links_reply(line) {
-        Some(reply) => reply,
-        None => match epochs_reply(line) {
-            Some(reply) => reply,
-            None => short_reply(line),
-        },
-    }
-}
-
-/// Returns what a line of a desk says that tells no decision.
-fn other_reply(line: &[u8]) -> Reply
-    ensures { Says line.now result }
-{
-    match up_reply(line) {
-        Some(reply) => reply,
-        None => counted_reply(line),
-    }
-}
-
-/// Returns what a line of a desk says.
-pub fn reply_of(line: &[u8]) -> Reply
-    ensures { Says line.now result }
-{
-    match decided_reply(line) {
-        Some(reply) => reply,
-        None => other_reply(line),
-    }
+    is(line, "HAVE 0") || is(line, "HAVE 1")
 }

@@ -1,4 +1,4 @@
-//! Requests, and what is to be done for one: begin at `task_of`, last.
+//! Requests, and what is to be done for one: begin at `task_of`.
 
 ghost use Rattle.std.specs.Prelude.{◌≡◌, IfErr, IfOk, IfSome, IsNone};
 ghost use Rattle.gateway.specs.declared.guards.Policy.{Policy};
@@ -184,6 +184,79 @@ pub fn word_of(refusal: Refusal) -> &'static str
     }
 }
 
+/// Returns what is to be done for a request to a gateway with this policy, for this cluster or
+/// chain.
+///
+/// # Errors
+///
+/// The first that applies:
+///
+/// - [`Refusal::Host`] if the field `Host` is none of the gateway's own names;
+/// - [`Refusal::Path`] if nothing has the path;
+/// - [`Refusal::Method`] if the path doesn't take the method;
+/// - of a proposal [`Refusal::Closed`], [`Refusal::Origin`], [`Refusal::Type`], [`Refusal::Token`];
+/// - [`Refusal::Question`] if the cluster hasn't the question: a chain has each;
+/// - [`Refusal::Query`] if the query isn't one of the path;
+/// - of a proposal [`Refusal::Body`], or [`Refusal::Memory`] if memory to read it was refused.
+pub fn task_of(
+    alloc: Global,
+    policy: &Policy<'_>,
+    scope: Scope,
+    request: &Request<'_>,
+) -> Result<Task, Refusal>
+    ensures ok { IfOk result (IsTask policy.now scope request.now) }
+    ensures err { IfErr result (IsRefused policy.now scope request.now) }
+{
+    if !is_own_host(policy, request.host) {
+        return Err(Refusal::Host);
+    }
+    match route_of(request.path) {
+        Some(route) => routed_task(alloc, policy, scope, route, request),
+        None => Err(Refusal::Path),
+    }
+}
+
+/// Returns what a request at this route asks for.
+fn routed_task(
+    alloc: Global,
+    policy: &Policy<'_>,
+    scope: Scope,
+    route: Route,
+    request: &Request<'_>,
+) -> Result<Task, Refusal>
+    ensures ok { IfOk result (AsksFor request.now.method policy.now scope route request.now) }
+    ensures err { IfErr result (IsRefusedAt policy.now scope route request.now) }
+{
+    match request.method {
+        Method::Get => read_task(policy, scope, route, request),
+        Method::Post => change_task(alloc, policy, scope, route, request),
+        Method::Other => Err(Refusal::Method),
+    }
+}
+
+/// Returns what a request that only reads asks for.
+fn read_task(
+    policy: &Policy<'_>,
+    scope: Scope,
+    route: Route,
+    request: &Request<'_>,
+) -> Result<Task, Refusal>
+    ensures ok { IfOk result (IsRead scope route request.now) }
+    ensures err { IfErr result (IsRefusedAt policy.now scope route request.now) }
+{
+    match route {
+        Route::Page => Ok(Task::Page),
+        Route::Health => Ok(Task::Health),
+        Route::Ready => Ok(Task::Ready),
+        Route::Metrics => Ok(Task::Metrics),
+        Route::Members => Ok(Task::Members),
+        Route::Questions => questions_task(policy, scope, request),
+        Route::Decisions => Ok(Task::Decisions(after_of(request.query, request.last))),
+        Route::Question(question) => question_task(policy, scope, question, request),
+        Route::Transcript(question) => transcript_task(policy, scope, question, request),
+    }
+}
+
 /// Returns the range of questions that is asked for.
 fn questions_task(policy: &Policy<'_>, scope: Scope, request: &Request<'_>) -> Result<Task, Refusal>
     ensures ok { IfOk result (IsRead scope route.Questions request.now) }
@@ -232,26 +305,46 @@ fn transcript_task(
     Ok(Task::Transcript(question))
 }
 
-/// Returns what a request that only reads asks for.
-fn read_task(
+/// Returns what a request to change something asks for.
+fn change_task(
+    alloc: Global,
     policy: &Policy<'_>,
     scope: Scope,
     route: Route,
     request: &Request<'_>,
 ) -> Result<Task, Refusal>
-    ensures ok { IfOk result (IsRead scope route request.now) }
-    ensures err { IfErr result (IsRefusedAt policy.now scope route request.now) }
+    ensures ok { IfOk result (Proposes policy.now scope route request.now) }
+    ensures err { request.now.method ≡ method.Post →
+        IfErr result (IsRefusedAt policy.now scope route request.now) }
 {
     match route {
-        Route::Page => Ok(Task::Page),
-        Route::Health => Ok(Task::Health),
-        Route::Ready => Ok(Task::Ready),
-        Route::Metrics => Ok(Task::Metrics),
-        Route::Members => Ok(Task::Members),
-        Route::Questions => questions_task(policy, scope, request),
-        Route::Decisions => Ok(Task::Decisions(after_of(request.query, request.last))),
-        Route::Question(question) => question_task(policy, scope, question, request),
-        Route::Transcript(question) => transcript_task(policy, scope, question, request),
+        Route::Question(question) => proposal_task(alloc, policy, scope, question, request),
+        Route::Page
+        | Route::Health
+        | Route::Ready
+        | Route::Metrics
+        | Route::Members
+        | Route::Questions
+        | Route::Decisions
+        | Route::Transcript(_) => Err(Refusal::Method),
+    }
+}
+
+/// Returns the proposal of a request on this question.
+fn proposal_task(
+    alloc: Global,
+    policy: &Policy<'_>,
+    scope: Scope,
+    question: u64,
+    request: &Request<'_>,
+) -> Result<Task, Refusal>
+    ensures ok { IfOk result (Proposes policy.now scope (route.Question question) request.now) }
+    ensures err { request.now.method ≡ method.Post →
+        IfErr result (IsRefusedAt policy.now scope (route.Question question) request.now) }
+{
+    match refuse_stranger(policy, request) {
+        Some(refusal) => Err(refusal),
+        None => motion_task(alloc, policy, scope, question, request),
     }
 }
 
@@ -274,20 +367,6 @@ fn refuse_stranger(policy: &Policy<'_>, request: &Request<'_>) -> Option<Refusal
         return Some(Refusal::Token);
     }
     None
-}
-
-/// Returns the bit that the body proposes.
-fn bit_task(alloc: Global, request: &Request<'_>) -> Result<bool, Refusal>
-    ensures ok { IfOk result (IsMotion request.now.body.now) }
-    ensures err { request.now.method ≡ method.Post →
-        (policy : Policy) (scope : Scope) (at : Route) →
-        IfErr result (IsRefusedAt policy scope at request.now) }
-{
-    match motion_of(alloc, request.body) {
-        Ok(Some(bit)) => Ok(bit),
-        Ok(None) => Err(Refusal::Body),
-        Err(_) => Err(Refusal::Memory),
-    }
 }
 
 /// Returns the proposal of a request that may propose, on this question.
@@ -319,95 +398,16 @@ fn motion_task(
     }
 }
 
-/// Returns the proposal of a request on this question.
-fn proposal_task(
-    alloc: Global,
-    policy: &Policy<'_>,
-    scope: Scope,
-    question: u64,
-    request: &Request<'_>,
-) -> Result<Task, Refusal>
-    ensures ok { IfOk result (Proposes policy.now scope (route.Question question) request.now) }
+/// Returns the bit that the body proposes.
+fn bit_task(alloc: Global, request: &Request<'_>) -> Result<bool, Refusal>
+    ensures ok { IfOk result (IsMotion request.now.body.now) }
     ensures err { request.now.method ≡ method.Post →
-        IfErr result (IsRefusedAt policy.now scope (route.Question question) request.now) }
+        (policy : Policy) (scope : Scope) (at : Route) →
+        IfErr result (IsRefusedAt policy scope at request.now) }
 {
-    match refuse_stranger(policy, request) {
-        Some(refusal) => Err(refusal),
-        None => motion_task(alloc, policy, scope, question, request),
-    }
-}
-
-/// Returns what a request to change something asks for.
-fn change_task(
-    alloc: Global,
-    policy: &Policy<'_>,
-    scope: Scope,
-    route: Route,
-    request: &Request<'_>,
-) -> Result<Task, Refusal>
-    ensures ok { IfOk result (Proposes policy.now scope route request.now) }
-    ensures err { request.now.method ≡ method.Post →
-        IfErr result (IsRefusedAt policy.now scope route request.now) }
-{
-    match route {
-        Route::Question(question) => proposal_task(alloc, policy, scope, question, request),
-        Route::Page
-        | Route::Health
-        | Route::Ready
-        | Route::Metrics
-        | Route::Members
-        | Route::Questions
-        | Route::Decisions
-        | Route::Transcript(_) => Err(Refusal::Method),
-    }
-}
-
-/// Returns what a request at this route asks for.
-fn routed_task(
-    alloc: Global,
-    policy: &Policy<'_>,
-    scope: Scope,
-    route: Route,
-    request: &Request<'_>,
-) -> Result<Task, Refusal>
-    ensures ok { IfOk result (AsksFor request.now.method policy.now scope route request.now) }
-    ensures err { IfErr result (IsRefusedAt policy.now scope route request.now) }
-{
-    match request.method {
-        Method::Get => read_task(policy, scope, route, request),
-        Method::Post => change_task(alloc, policy, scope, route, request),
-        Method::Other => Err(Refusal::Method),
-    }
-}
-
-/// Returns what is to be done for a request to a gateway with this policy, for this cluster or
-/// chain.
-///
-/// # Errors
-///
-/// The first that applies:
-///
-/// - [`Refusal::Host`] if the field `Host` is none of the gateway's own names;
-/// - [`Refusal::Path`] if nothing has the path;
-/// - [`Refusal::Method`] if the path doesn't take the method;
-/// - of a proposal [`Refusal::Closed`], [`Refusal::Origin`], [`Refusal::Type`], [`Refusal::Token`];
-/// - [`Refusal::Question`] if the cluster hasn't the question: a chain has each;
-/// - [`Refusal::Query`] if the query isn't one of the path;
-/// - of a proposal [`Refusal::Body`], or [`Refusal::Memory`] if memory to read it was refused.
-pub fn task_of(
-    alloc: Global,
-    policy: &Policy<'_>,
-    scope: Scope,
-    request: &Request<'_>,
-) -> Result<Task, Refusal>
-    ensures ok { IfOk result (IsTask policy.now scope request.now) }
-    ensures err { IfErr result (IsRefused policy.now scope request.now) }
-{
-    if !is_own_host(policy, request.host) {
-        return Err(Refusal::Host);
-    }
-    match route_of(request.path) {
-        Some(route) => routed_task(alloc, policy, scope, route, request),
-        None => Err(Refusal::Path),
+    match motion_of(alloc, request.body) {
+        Ok(Some(bit)) => Ok(bit),
+        Ok(None) => Err(Refusal::Body),
+        Err(_) => Err(Refusal::Memory),
     }
 }

@@ -1,4 +1,4 @@
-//! The paths of requests: begin at `route_of`, last.
+//! The paths of requests: begin at `route_of`.
 
 ghost use Rattle.std.specs.Prelude.{◌≡◌, ◌++◌, ℕ, List, IfSome, IsNone, MatchOption, codes};
 ghost use Rattle.gateway.specs.Routes.{IsListPath, IsPlainPath, IsQuestionPath, IsQuestionRest, IsRoute, IsTranscriptRest};
@@ -29,6 +29,17 @@ pub enum Route {
     Transcript(u64),
 }
 
+/// Returns the route of a path, if it has one.
+pub(crate) fn route_of(path: &[u8]) -> Option<Route>
+    ensures some { IfSome result (IsRoute path.now) }
+    ensures none { IsNone result → (route : Route) → IsRoute path.now route → ⊥ }
+{
+    match plain_route(path) {
+        Some(route) => Some(route),
+        None => data_route(path),
+    }
+}
+
 /// Returns the route of the page or of what supervisors ask for.
 fn plain_route(path: &[u8]) -> Option<Route>
     ensures some { IfSome result (IsPlainPath path.now) }
@@ -44,6 +55,18 @@ fn plain_route(path: &[u8]) -> Option<Route>
         Some(Route::Metrics)
     } else {
         None
+    }
+}
+
+/// Returns the route of a path that has a list or a number.
+fn data_route(path: &[u8]) -> Option<Route>
+    ensures some { IfSome result (IsRoute path.now) }
+    ensures lists { IsNone result → (route : Route) → IsListPath path.now route → ⊥ }
+    ensures numbers { IsNone result → (route : Route) → IsQuestionPath path.now route → ⊥ }
+{
+    match list_route(path) {
+        Some(route) => Some(route),
+        None => numbered_route(path),
     }
 }
 
@@ -63,21 +86,25 @@ fn list_route(path: &[u8]) -> Option<Route>
     }
 }
 
-/// Returns the part of the text before this end, if the text ends so.
-fn before<'a>(text: &'a [u8], end: &str) -> Option<&'a [u8]>
-    ensures some { IfSome result (λ front. text.now ≡ front.now ++ end.now) }
-    ensures exact { (front : List ℕ) → text.now ≡ front ++ end.now →
-        MatchOption result ⊥ (λ found. found.now ≡ front) }
+/// Returns the route of a question or of its transcript.
+fn numbered_route(path: &[u8]) -> Option<Route>
+    ensures some { IfSome result (IsQuestionPath path.now) }
+    ensures none { IsNone result → (route : Route) → IsQuestionPath path.now route → ⊥ }
 {
-    let length = end.len();
-    if text.len() < length {
-        return None;
+    match behind(path, "/v1/questions/") {
+        Some(rest) => question_route(rest),
+        None => None,
     }
-    let cut = text.len() - length;
-    if is(&text[cut..], end) {
-        Some(&text[..cut])
-    } else {
-        None
+}
+
+/// Returns the route of a question or of its transcript, by what follows `/v1/questions/`.
+fn question_route(rest: &[u8]) -> Option<Route>
+    ensures some { IfSome result (IsQuestionRest rest.now) }
+    ensures none { IsNone result → (route : Route) → IsQuestionRest rest.now route → ⊥ }
+{
+    match number(rest) {
+        Some(question) => Some(Route::Question(question)),
+        None => transcript_route(rest),
     }
 }
 
@@ -95,47 +122,20 @@ fn transcript_route(rest: &[u8]) -> Option<Route>
     }
 }
 
-/// Returns the route of a question or of its transcript, by what follows `/v1/questions/`.
-fn question_route(rest: &[u8]) -> Option<Route>
-    ensures some { IfSome result (IsQuestionRest rest.now) }
-    ensures none { IsNone result → (route : Route) → IsQuestionRest rest.now route → ⊥ }
+/// Returns the part of the text before this end, if the text ends so.
+fn before<'a>(text: &'a [u8], end: &str) -> Option<&'a [u8]>
+    ensures some { IfSome result (λ front. text.now ≡ front.now ++ end.now) }
+    ensures exact { (front : List ℕ) → text.now ≡ front ++ end.now →
+        MatchOption result ⊥ (λ found. found.now ≡ front) }
 {
-    match number(rest) {
-        Some(question) => Some(Route::Question(question)),
-        None => transcript_route(rest),
+    let length = end.len();
+    if text.len() < length {
+        return None;
     }
-}
-
-/// Returns the route of a question or of its transcript.
-fn numbered_route(path: &[u8]) -> Option<Route>
-    ensures some { IfSome result (IsQuestionPath path.now) }
-    ensures none { IsNone result → (route : Route) → IsQuestionPath path.now route → ⊥ }
-{
-    match behind(path, "/v1/questions/") {
-        Some(rest) => question_route(rest),
-        None => None,
-    }
-}
-
-/// Returns the route of a path that has a list or a number.
-fn data_route(path: &[u8]) -> Option<Route>
-    ensures some { IfSome result (IsRoute path.now) }
-    ensures lists { IsNone result → (route : Route) → IsListPath path.now route → ⊥ }
-    ensures numbers { IsNone result → (route : Route) → IsQuestionPath path.now route → ⊥ }
-{
-    match list_route(path) {
-        Some(route) => Some(route),
-        None => numbered_route(path),
-    }
-}
-
-/// Returns the route of a path, if it has one.
-pub(crate) fn route_of(path: &[u8]) -> Option<Route>
-    ensures some { IfSome result (IsRoute path.now) }
-    ensures none { IsNone result → (route : Route) → IsRoute path.now route → ⊥ }
-{
-    match plain_route(path) {
-        Some(route) => Some(route),
-        None => data_route(path),
+    let cut = text.len() - length;
+    if is(&text[cut..], end) {
+        Some(&text[..cut])
+    } else {
+        None
     }
 }

@@ -61,21 +61,6 @@ impl Scope {
     }
 }
 
-/// Returns the first slot of the slot's epoch.
-pub(crate) fn epoch_start(questions: u64, slot: u64) -> u64
-    requires { 0 < questions }
-    ensures { result ≡ epoch_start questions slot }
-{
-    slot / questions * questions
-}
-
-/// Returns the number after this one.
-fn after(number: u64) -> u64
-    ensures { result ≡ after number }
-{
-    number.saturating_add(1)
-}
-
 /// Returns the number from which one follows a member of a chain, once it told a decision of this
 /// slot.
 fn chain_number(questions: u64, number: u64, slot: u64) -> u64
@@ -90,4 +75,19 @@ fn chain_number(questions: u64, number: u64, slot: u64) -> u64
     } else {
         after(epoch_start(questions, slot))
     }
+}
+
+/// Returns the number after this one.
+fn after(number: u64) -> u64
+    ensures { result ≡ after number }
+{
+    number.saturating_add(1)
+}
+
+/// Returns the first slot of the slot's epoch.
+pub(crate) fn epoch_start(questions: u64, slot: u64) -> u64
+    requires { 0 < questions }
+    ensures { result ≡ epoch_start questions slot }
+{
+    slot / questions * questions
 }

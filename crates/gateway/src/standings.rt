@@ -43,19 +43,6 @@ pub fn standing_of(decision: Option<bool>, stage: Stage) -> Standing
     }
 }
 
-/// Returns the letter of a state.
-fn letter(standing: Standing) -> u8
-    ensures { result ≡ letter standing }
-{
-    match standing {
-        Standing::Unproposed => b'-',
-        Standing::Proposed => b'p',
-        Standing::Spent => b'x',
-        Standing::Decided(false) => b'0',
-        Standing::Decided(true) => b'1',
-    }
-}
-
 /// Returns the fields of JSON for a state.
 pub(crate) fn standing_fields(standing: Standing) -> &'static str
     ensures { result.now ≡ standing_fields standing }
@@ -82,4 +69,17 @@ pub fn states_text(alloc: Global, standings: &[Standing]) -> Result<Vec<u8>, All
         bytes.push(letter(*standing))?;
     }
     Ok(bytes)
+}
+
+/// Returns the letter of a state.
+fn letter(standing: Standing) -> u8
+    ensures { result ≡ letter standing }
+{
+    match standing {
+        Standing::Unproposed => b'-',
+        Standing::Proposed => b'p',
+        Standing::Spent => b'x',
+        Standing::Decided(false) => b'0',
+        Standing::Decided(true) => b'1',
+    }
 }

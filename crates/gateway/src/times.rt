@@ -22,52 +22,6 @@ pub struct Times {
     count: u64,
 }
 
-/// Returns empty buckets of these bounds.
-fn empty_buckets(alloc: Global, bounds: &[u32]) -> Result<Vec<Bucket>, AllocError>
-    ensures { IfOk result (λ buckets. buckets.items ≡ map (bucket_of []) bounds.now) }
-{
-    let mut buckets = Vec::new(alloc);
-    for most in bounds {
-        buckets.push(Bucket {
-            most: *most,
-            count: 0,
-        })?;
-    }
-    Ok(buckets)
-}
-
-/// Returns the count after one time more.
-fn more(count: u64) -> u64
-    ensures { result ≡ more count }
-{
-    count.saturating_add(1)
-}
-
-/// Returns the bucket after a time more.
-fn bucket_after(ms: u32, bucket: Bucket) -> Bucket
-    ensures { result ≡ bucket_after ms bucket }
-{
-    if ms <= bucket.most {
-        Bucket {
-            most: bucket.most,
-            count: more(bucket.count),
-        }
-    } else {
-        bucket
-    }
-}
-
-/// Returns the buckets after a time more.
-fn buckets_after(alloc: Global, ms: u32, buckets: &[Bucket]) -> Result<Vec<Bucket>, AllocError>
-    ensures { IfOk result (λ after. after.items ≡ map (bucket_after ms) buckets.now) }
-{
-    let mut after = Vec::new(alloc);
-    for bucket in buckets {
-        after.push(bucket_after(ms, *bucket))?;
-    }
-    Ok(after)
-}
-
 impl Times {
     /// Returns the counts before any time.
     ///
@@ -115,4 +69,50 @@ impl Times {
     {
         self.count
     }
+}
+
+/// Returns empty buckets of these bounds.
+fn empty_buckets(alloc: Global, bounds: &[u32]) -> Result<Vec<Bucket>, AllocError>
+    ensures { IfOk result (λ buckets. buckets.items ≡ map (bucket_of []) bounds.now) }
+{
+    let mut buckets = Vec::new(alloc);
+    for most in bounds {
+        buckets.push(Bucket {
+            most: *most,
+            count: 0,
+        })?;
+    }
+    Ok(buckets)
+}
+
+/// Returns the buckets after a time more.
+fn buckets_after(alloc: Global, ms: u32, buckets: &[Bucket]) -> Result<Vec<Bucket>, AllocError>
+    ensures { IfOk result (λ after. after.items ≡ map (bucket_after ms) buckets.now) }
+{
+    let mut after = Vec::new(alloc);
+    for bucket in buckets {
+        after.push(bucket_after(ms, *bucket))?;
+    }
+    Ok(after)
+}
+
+/// Returns the bucket after a time more.
+fn bucket_after(ms: u32, bucket: Bucket) -> Bucket
+    ensures { result ≡ bucket_after ms bucket }
+{
+    if ms <= bucket.most {
+        Bucket {
+            most: bucket.most,
+            count: more(bucket.count),
+        }
+    } else {
+        bucket
+    }
+}
+
+/// Returns the count after one time more.
+fn more(count: u64) -> u64
+    ensures { result ≡ more count }
+{
+    count.saturating_add(1)
 }

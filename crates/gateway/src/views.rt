@@ -49,15 +49,70 @@ pub struct MemberView {
     pub contradicts: Vec<Option<bool>>,
 }
 
-/// Returns the word of a state.
-pub(crate) fn state_word(state: MemberState) -> &'static str
-    ensures { result.now ≡ state_word state }
+/// Returns the object of JSON of all members, by their numbers.
+///
+/// # Errors
+///
+/// [`AllocError`] if an allocation failed.
+pub fn members_text(
+    alloc: Global,
+    cluster: u64,
+    scope: Scope,
+    proposing: Proposing,
+    views: &[MemberView],
+) -> Result<Vec<u8>, AllocError>
+    ensures { IfOk result
+        (λ bytes. bytes.items ≡ members_object cluster scope proposing views.now) }
 {
-    match state {
-        MemberState::Up => "up",
-        MemberState::Silent => "silent",
-        MemberState::Stopped => "stopped",
-    }
+    let head = members_head(alloc, cluster, scope, proposing)?;
+    let items = member_items(alloc, views)?;
+    joined(alloc, head.as_bytes(), behind_first(&items), b"]}\n")
+}
+
+/// Returns what stands before the members' items.
+fn members_head(
+    alloc: Global,
+    cluster: u64,
+    scope: Scope,
+    proposing: Proposing,
+) -> Result<String, AllocError>
+    ensures { IfOk result (λ text. string_bytes text ≡ members_head cluster scope proposing) }
+{
+    let mut text = size_fields(alloc, cluster, scope.size)?;
+    text.push_str(chain_field(scope.chain))?;
+    let rest = proposing_field(alloc, proposing)?;
+    text.push_str(rest.as_str())?;
+    Ok(text)
+}
+
+/// Returns the cluster and its size.
+#[tactic(auto, unfolding(crate::specs::Views::size_fields))]
+fn size_fields(alloc: Global, cluster: u64, size: Size) -> Result<String, AllocError>
+    ensures { IfOk result (λ text. string_bytes text ≡ size_fields cluster size) }
+{
+    format!(in alloc;
+        "{{\"cluster\":{cluster},\"n\":{},\"t\":{},\"questions\":{}",
+        size.n(),
+        size.t(),
+        size.questions()
+    )
+}
+
+/// Returns the field of a chain; nothing for another cluster.
+fn chain_field(chain: bool) -> &'static str
+    ensures { result.now ≡ chain_field chain }
+{
+    if chain { ",\"chain\":true" } else { "" }
+}
+
+/// Returns who may propose, and the beginning of the members.
+fn proposing_field(alloc: Global, proposing: Proposing) -> Result<String, AllocError>
+    ensures { IfOk result (λ text. string_bytes text ≡ proposing_field proposing) }
+{
+    format!(in alloc;
+        ",\"propose\":\"{}\",\"members\":[",
+        proposing_word(proposing)
+    )
 }
 
 /// Returns the word for who may propose.
@@ -71,38 +126,40 @@ fn proposing_word(proposing: Proposing) -> &'static str
     }
 }
 
-/// Returns the item of a question on which a member contradicts the others, behind a comma; nothing
-/// if it doesn't.
-fn contradiction_item(
-    alloc: Global,
-    question: u128,
-    found: Option<bool>,
-) -> Result<String, AllocError>
-    ensures { IfOk result (λ text. string_bytes text ≡ contradiction_item question found) }
+/// Returns the items of all members, with a comma before each.
+fn member_items(alloc: Global, views: &[MemberView]) -> Result<Vec<u8>, AllocError>
+    ensures { IfOk result (λ bytes. bytes.items ≡ member_items 0 views.now) }
 {
-    match found {
-        None => Ok(String::new(alloc)),
-        Some(bit) => format!(in alloc;
-            ",{{\"question\":{question},\"says\":{}}}",
-            says_text(Some(bit))
-        ),
+    let mut bytes = Vec::new(alloc);
+    for member in 0..views.len() {
+        let item = member_item(alloc, member, &views[member])?;
+        bytes.extend_from_slice(item.as_slice())?;
     }
+    Ok(bytes)
 }
 
-/// Returns the items of all such questions from the first on, with a comma before each.
-fn contradiction_items(
-    alloc: Global,
-    first: u64,
-    found: &[Option<bool>],
-) -> Result<String, AllocError>
-    ensures { IfOk result (λ text. string_bytes text ≡ contradiction_items first found.now) }
+/// Returns a member's item behind a comma.
+fn member_item(alloc: Global, member: usize, view: &MemberView) -> Result<Vec<u8>, AllocError>
+    ensures { IfOk result (λ bytes. bytes.items ≡ member_item member view.now) }
 {
-    let mut text = String::new(alloc);
-    for place in 0..found.len() {
-        let question = u128::from(first) + place as u128;
-        let item = contradiction_item(alloc, question, found[place])?;
-        text.push_str(item.as_str())?;
-    }
+    let front = member_front(alloc, member, view)?;
+    let items = contradiction_items(alloc, view.first, &view.contradicts)?;
+    joined(
+        alloc,
+        front.as_bytes(),
+        behind_first(items.as_bytes()),
+        b"]}",
+    )
+}
+
+/// Returns what stands before a member's contradictions.
+fn member_front(alloc: Global, member: usize, view: &MemberView) -> Result<String, AllocError>
+    ensures { IfOk result
+        (λ text. string_bytes text ≡ member_head member view.now ++ member_counts view.now) }
+{
+    let mut text = member_head(alloc, member, view)?;
+    let counts = member_counts(alloc, view)?;
+    text.push_str(counts.as_str())?;
     Ok(text)
 }
 
@@ -128,117 +185,50 @@ fn member_counts(alloc: Global, view: &MemberView) -> Result<String, AllocError>
     )
 }
 
-/// Returns what stands before a member's contradictions.
-fn member_front(alloc: Global, member: usize, view: &MemberView) -> Result<String, AllocError>
-    ensures { IfOk result
-        (λ text. string_bytes text ≡ member_head member view.now ++ member_counts view.now) }
-{
-    let mut text = member_head(alloc, member, view)?;
-    let counts = member_counts(alloc, view)?;
-    text.push_str(counts.as_str())?;
-    Ok(text)
-}
-
-/// Returns a member's item behind a comma.
-fn member_item(alloc: Global, member: usize, view: &MemberView) -> Result<Vec<u8>, AllocError>
-    ensures { IfOk result (λ bytes. bytes.items ≡ member_item member view.now) }
-{
-    let front = member_front(alloc, member, view)?;
-    let items = contradiction_items(alloc, view.first, &view.contradicts)?;
-    joined(
-        alloc,
-        front.as_bytes(),
-        behind_first(items.as_bytes()),
-        b"]}",
-    )
-}
-
-/// Returns the items of all members, with a comma before each.
-fn member_items(alloc: Global, views: &[MemberView]) -> Result<Vec<u8>, AllocError>
-    ensures { IfOk result (λ bytes. bytes.items ≡ member_items 0 views.now) }
-{
-    let mut bytes = Vec::new(alloc);
-    for member in 0..views.len() {
-        let item = member_item(alloc, member, &views[member])?;
-        bytes.extend_from_slice(item.as_slice())?;
-    }
-    Ok(bytes)
-}
-
-/// Returns the cluster and its size.
-#[tactic(auto, unfolding(crate::specs::Views::size_fields))]
-fn size_fields(alloc: Global, cluster: u64, size: Size) -> Result<String, AllocError>
-    ensures { IfOk result (λ text. string_bytes text ≡ size_fields cluster size) }
-{
-    format!(in alloc;
-        "{{\"cluster\":{cluster},\"n\":{},\"t\":{},\"questions\":{}",
-        size.n(),
-        size.t(),
-        size.questions()
-    )
-}
-
-/// Returns who may propose, and the beginning of the members.
-fn proposing_field(alloc: Global, proposing: Proposing) -> Result<String, AllocError>
-    ensures { IfOk result (λ text. string_bytes text ≡ proposing_field proposing) }
-{
-    format!(in alloc;
-        ",\"propose\":\"{}\",\"members\":[",
-        proposing_word(proposing)
-    )
-}
-
-/// Returns the field of a chain; nothing for another cluster.
-fn chain_field(chain: bool) -> &'static str
-    ensures { result.now ≡ chain_field chain }
-{
-    if chain { ",\"chain\":true" } else { "" }
-}
-
-/// Returns what stands before the members' items.
-fn members_head(
+/// Returns the items of all such questions from the first on, with a comma before each.
+fn contradiction_items(
     alloc: Global,
-    cluster: u64,
-    scope: Scope,
-    proposing: Proposing,
+    first: u64,
+    found: &[Option<bool>],
 ) -> Result<String, AllocError>
-    ensures { IfOk result (λ text. string_bytes text ≡ members_head cluster scope proposing) }
+    ensures { IfOk result (λ text. string_bytes text ≡ contradiction_items first found.now) }
 {
-    let mut text = size_fields(alloc, cluster, scope.size)?;
-    text.push_str(chain_field(scope.chain))?;
-    let rest = proposing_field(alloc, proposing)?;
-    text.push_str(rest.as_str())?;
+    let mut text = String::new(alloc);
+    for place in 0..found.len() {
+        let question = u128::from(first) + place as u128;
+        let item = contradiction_item(alloc, question, found[place])?;
+        text.push_str(item.as_str())?;
+    }
     Ok(text)
 }
 
-/// Returns the object of JSON of all members, by their numbers.
-///
-/// # Errors
-///
-/// [`AllocError`] if an allocation failed.
-pub fn members_text(
+/// Returns the item of a question on which a member contradicts the others, behind a comma; nothing
+/// if it doesn't.
+fn contradiction_item(
     alloc: Global,
-    cluster: u64,
-    scope: Scope,
-    proposing: Proposing,
-    views: &[MemberView],
-) -> Result<Vec<u8>, AllocError>
-    ensures { IfOk result
-        (λ bytes. bytes.items ≡ members_object cluster scope proposing views.now) }
+    question: u128,
+    found: Option<bool>,
+) -> Result<String, AllocError>
+    ensures { IfOk result (λ text. string_bytes text ≡ contradiction_item question found) }
 {
-    let head = members_head(alloc, cluster, scope, proposing)?;
-    let items = member_items(alloc, views)?;
-    joined(alloc, head.as_bytes(), behind_first(&items), b"]}\n")
+    match found {
+        None => Ok(String::new(alloc)),
+        Some(bit) => format!(in alloc;
+            ",{{\"question\":{question},\"says\":{}}}",
+            says_text(Some(bit))
+        ),
+    }
 }
 
-/// Returns `true` if as many links come in and go out as a member needs to decide.
-fn has_links(size: Size, view: &MemberView) -> bool
-    ensures { IsTrue result
-        ↔ ((size.n - size.t ≤ view.now.coming) × (size.n - size.t ≤ view.now.going)) }
+/// Returns the word of a state.
+pub(crate) fn state_word(state: MemberState) -> &'static str
+    ensures { result.now ≡ state_word state }
 {
-    size.recall();
-    let needed = u64::from(size.n() - size.t());
-    needed <= view.coming && needed <= view.going
+    match state {
+        MemberState::Up => "up",
+        MemberState::Silent => "silent",
+        MemberState::Stopped => "stopped",
+    }
 }
 
 /// Returns `true` if the member answers, and as many links come in and go out as it needs to
@@ -250,4 +240,14 @@ pub fn is_linked(size: Size, view: &MemberView) -> bool
         MemberState::Up => has_links(size, view),
         MemberState::Silent | MemberState::Stopped => false,
     }
+}
+
+/// Returns `true` if as many links come in and go out as a member needs to decide.
+fn has_links(size: Size, view: &MemberView) -> bool
+    ensures { IsTrue result
+        ↔ ((size.n - size.t ≤ view.now.coming) × (size.n - size.t ≤ view.now.going)) }
+{
+    size.recall();
+    let needed = u64::from(size.n() - size.t());
+    needed <= view.coming && needed <= view.going
 }

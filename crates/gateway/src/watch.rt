@@ -37,65 +37,7 @@ pub struct Watch {
     heads: Vec<u64>,
 }
 
-/// Returns so many readings: these, and behind them those of questions of which nobody told
-/// anything.
-fn filled(
-    alloc: Global,
-    size: Size,
-    count: usize,
-    kept: &[Reading],
-) -> Result<Vec<Reading>, AllocError>
-    requires { length kept.now ≤ count }
-    ensures all { IfOk result (λ readings. length readings.items ≡ count) }
-    ensures kept { IfOk result (λ readings. (place : ℕ) → (words : List (ℕ × Bool)) →
-        IsKept size (slice_get kept.now place) words →
-        IsKept size (slice_get readings.items place) words) }
-{
-    let mut readings = Vec::new(alloc);
-    readings.extend_from_slice(kept)?;
-    for _ in kept.len()..count {
-        readings.push(Reading::new(size))?;
-    }
-    Ok(readings)
-}
-
-/// Returns the bit that the member told first, if more than t members told the other one.
-fn contradiction_on(reading: &Reading, member: u8) -> Option<bool>
-    ensures { (words : List (ℕ × Bool)) → Reads reading.now words → member < 64 →
-        ContradictsOn (size_of reading.now) words member result }
-{
-    contradiction_in(reading.decision(), reading.word_of(member))
-}
-
-/// Returns the readings from this place on.
-fn from_place(readings: &[Reading], place: u64) -> &[Reading]
-    ensures { result.now ≡ drop place readings.now }
-{
-    if place >= readings.len() as u64 {
-        return &[];
-    }
-    &readings[place as usize..]
-}
-
 impl Watch {
-    /// Returns a watch over this scope, before anybody told anything.
-    #[tactic(auto, unfolding(crate::specs::Watches::Watches, crate::specs::Watches::watch_scope, crate::specs::Watches::watch_first))]
-    fn over(alloc: Global, scope: Scope) -> Result<Watch, AllocError>
-        ensures scope { IfOk result (λ watch. watch_scope watch ≡ scope) }
-        ensures first { IfOk result (λ watch. watch_first watch ≡ 0) }
-        ensures nothing { IfOk result (λ watch. Watches watch []) }
-    {
-        let readings = filled(alloc, scope.size, scope.window_length(), &[])?;
-        let mut heads = Vec::new(alloc);
-        heads.resize(usize::from(scope.size.n()), 0)?;
-        Ok(Watch {
-            scope,
-            first: 0,
-            readings,
-            heads,
-        })
-    }
-
     /// Returns a watch over a cluster of this size, before anybody told anything. Its window has
     /// all questions, and never moves.
     ///
@@ -195,23 +137,6 @@ impl Watch {
         epoch_start(questions, next_first(self.first, quarter, slot))
     }
 
-    /// Returns the reading of a question, if it is one of the window.
-    #[tactic(auto, unfolding(crate::specs::Watches::watch_first))]
-    fn reading_at(&self, question: u64) -> Option<Reading>
-        ensures kept { (place : ℕ) → question ≡ watch_first self.now + place →
-            result ≡ slice_get self.now.readings.items place }
-        ensures past { question < watch_first self.now → result ≡ None }
-    {
-        if question < self.first {
-            return None;
-        }
-        let place = question - self.first;
-        if place >= self.readings.len() as u64 {
-            return None;
-        }
-        Some(self.readings[place as usize])
-    }
-
     /// Takes a decision that a member told. Of each member the first word on a question counts.
     /// Returns `false` if there is no such member, or the question isn't one of the window, and
     /// then nothing changed.
@@ -241,23 +166,6 @@ impl Watch {
         }
         self.readings[place] = reading;
         true
-    }
-
-    /// Forgets the questions before this one, and begins the window there.
-    #[tactic(auto, unfolding(crate::specs::Watches::Watches, crate::specs::Watches::watch_first, crate::specs::Watches::watch_heads, crate::specs::Watches::watch_scope))]
-    fn pass(&mut self, alloc: Global, first: u64) -> Result<(), AllocError>
-        requires { watch_first self.old ≤ first }
-        ensures words { (watch_scope self.old).chain ≡ true → (heard : List Told) →
-            Watches self.old heard → Watches self.new heard }
-        ensures scope { watch_scope self.new ≡ watch_scope self.old }
-        ensures heads { watch_heads self.new ≡ watch_heads self.old }
-        ensures moves { OnOk result (watch_first self.new ≡ first) }
-        ensures stays { OnErr result (self.new ≡ self.old) }
-    {
-        let rest = from_place(&self.readings, first - self.first);
-        self.readings = filled(alloc, self.scope.size, self.readings.len(), rest)?;
-        self.first = first;
-        Ok(())
     }
 
     /// Notes that a member of a chain has come to a slot, and moves the window ahead: once the
@@ -294,6 +202,23 @@ impl Watch {
         self.pass(alloc, first)
     }
 
+    /// Forgets the questions before this one, and begins the window there.
+    #[tactic(auto, unfolding(crate::specs::Watches::Watches, crate::specs::Watches::watch_first, crate::specs::Watches::watch_heads, crate::specs::Watches::watch_scope))]
+    fn pass(&mut self, alloc: Global, first: u64) -> Result<(), AllocError>
+        requires { watch_first self.old ≤ first }
+        ensures words { (watch_scope self.old).chain ≡ true → (heard : List Told) →
+            Watches self.old heard → Watches self.new heard }
+        ensures scope { watch_scope self.new ≡ watch_scope self.old }
+        ensures heads { watch_heads self.new ≡ watch_heads self.old }
+        ensures moves { OnOk result (watch_first self.new ≡ first) }
+        ensures stays { OnErr result (self.new ≡ self.old) }
+    {
+        let rest = from_place(&self.readings, first - self.first);
+        self.readings = filled(alloc, self.scope.size, self.readings.len(), rest)?;
+        self.first = first;
+        Ok(())
+    }
+
     /// Returns the decision of the question: the first bit that more than t members told. There is
     /// none of a question before the window.
     #[tactic(auto, unfolding(crate::specs::Watches::Watches, crate::specs::Watches::watch_size))]
@@ -322,6 +247,23 @@ impl Watch {
             Some(reading) => reading.word_of(member),
             None => None,
         }
+    }
+
+    /// Returns the reading of a question, if it is one of the window.
+    #[tactic(auto, unfolding(crate::specs::Watches::watch_first))]
+    fn reading_at(&self, question: u64) -> Option<Reading>
+        ensures kept { (place : ℕ) → question ≡ watch_first self.now + place →
+            result ≡ slice_get self.now.readings.items place }
+        ensures past { question < watch_first self.now → result ≡ None }
+    {
+        if question < self.first {
+            return None;
+        }
+        let place = question - self.first;
+        if place >= self.readings.len() as u64 {
+            return None;
+        }
+        Some(self.readings[place as usize])
     }
 
     /// Returns the bit that the member told first on the question, if more than t members told the
@@ -353,6 +295,64 @@ impl Watch {
         }
         Ok(found)
     }
+
+    /// Returns a watch over this scope, before anybody told anything.
+    #[tactic(auto, unfolding(crate::specs::Watches::Watches, crate::specs::Watches::watch_scope, crate::specs::Watches::watch_first))]
+    fn over(alloc: Global, scope: Scope) -> Result<Watch, AllocError>
+        ensures scope { IfOk result (λ watch. watch_scope watch ≡ scope) }
+        ensures first { IfOk result (λ watch. watch_first watch ≡ 0) }
+        ensures nothing { IfOk result (λ watch. Watches watch []) }
+    {
+        let readings = filled(alloc, scope.size, scope.window_length(), &[])?;
+        let mut heads = Vec::new(alloc);
+        heads.resize(usize::from(scope.size.n()), 0)?;
+        Ok(Watch {
+            scope,
+            first: 0,
+            readings,
+            heads,
+        })
+    }
+}
+
+/// Returns so many readings: these, and behind them those of questions of which nobody told
+/// anything.
+fn filled(
+    alloc: Global,
+    size: Size,
+    count: usize,
+    kept: &[Reading],
+) -> Result<Vec<Reading>, AllocError>
+    requires { length kept.now ≤ count }
+    ensures all { IfOk result (λ readings. length readings.items ≡ count) }
+    ensures kept { IfOk result (λ readings. (place : ℕ) → (words : List (ℕ × Bool)) →
+        IsKept size (slice_get kept.now place) words →
+        IsKept size (slice_get readings.items place) words) }
+{
+    let mut readings = Vec::new(alloc);
+    readings.extend_from_slice(kept)?;
+    for _ in kept.len()..count {
+        readings.push(Reading::new(size))?;
+    }
+    Ok(readings)
+}
+
+/// Returns the bit that the member told first, if more than t members told the other one.
+fn contradiction_on(reading: &Reading, member: u8) -> Option<bool>
+    ensures { (words : List (ℕ × Bool)) → Reads reading.now words → member < 64 →
+        ContradictsOn (size_of reading.now) words member result }
+{
+    contradiction_in(reading.decision(), reading.word_of(member))
+}
+
+/// Returns the readings from this place on.
+fn from_place(readings: &[Reading], place: u64) -> &[Reading]
+    ensures { result.now ≡ drop place readings.now }
+{
+    if place >= readings.len() as u64 {
+        return &[];
+    }
+    &readings[place as usize..]
 }
 
 /// Returns the bit that was told, if the decision is the other one.

@@ -11,18 +11,6 @@ use std::alloc::Global;
 use std::io::{BufRead, Write};
 use terms::Size;
 
-/// The line without the byte that ends it. The last line of an input may lack it.
-fn without_end(line: &[u8]) -> &[u8]
-    ensures ended { (text : List ℕ) → line.now ≡ text ++ 10 ∷ [] → result.now ≡ text }
-    ensures last { NoEnd line.now → result.now ≡ line.now }
-{
-    if line.last() == Some(&b'\n') {
-        &line[..line.len() - 1]
-    } else {
-        line
-    }
-}
-
 /// Reads lines, each a piece of a sender's stream, and writes what member `me` of a cluster of that
 /// size answers by reliable broadcast (Bracha 1987, section 3), line by line as the input comes.
 /// The status is 0.
@@ -64,4 +52,16 @@ pub fn hear_lines<R: BufRead, W: Write>(
         }
     }
     Err(HearFault::Stream)
+}
+
+/// The line without the byte that ends it. The last line of an input may lack it.
+fn without_end(line: &[u8]) -> &[u8]
+    ensures ended { (text : List ℕ) → line.now ≡ text ++ 10 ∷ [] → result.now ≡ text }
+    ensures last { NoEnd line.now → result.now ≡ line.now }
+{
+    if line.last() == Some(&b'\n') {
+        &line[..line.len() - 1]
+    } else {
+        line
+    }
 }

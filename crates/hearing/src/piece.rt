@@ -16,17 +16,6 @@ pub struct Piece {
     pub bytes: Vec<u8>,
 }
 
-/// The sender that these decimal digits name, if there is one below n. Leading zeros are taken.
-fn sender(n: u8, digits: &[u8]) -> Option<u8>
-    ensures some { IfSome result (IsMemberBelow n digits.now) }
-    ensures exact { (member : ℕ) → IsMemberBelow n digits.now member → IsSome result }
-{
-    match number8(digits) {
-        Some(number) if number < n => Some(number),
-        _ => None,
-    }
-}
-
 impl Piece {
     /// The piece that the line names, or none where it isn't a line of that form, for a cluster of
     /// n members.
@@ -45,5 +34,16 @@ impl Piece {
             Some(bytes) => Ok(Some(Piece { sender, bytes })),
             None => Ok(None),
         }
+    }
+}
+
+/// The sender that these decimal digits name, if there is one below n. Leading zeros are taken.
+fn sender(n: u8, digits: &[u8]) -> Option<u8>
+    ensures some { IfSome result (IsMemberBelow n digits.now) }
+    ensures exact { (member : ℕ) → IsMemberBelow n digits.now member → IsSome result }
+{
+    match number8(digits) {
+        Some(number) if number < n => Some(number),
+        _ => None,
     }
 }

@@ -25,232 +25,6 @@ use std::io::Write;
 use terms::{Kind, Memory, Place, Size, Statement, Value};
 use wire::{Fed, Feeder, Message, WireFault, encode};
 
-/// Adds the frame in lower case hexadecimal digits, and the end of a line.
-fn show_frame(alloc: Global, message: &Message, text: &mut Vec<u8>) -> Result<(), Memory>
-    ensures { OnOk result
-        (text.new.items ≡ text.old.items ++ line (encode_lower (text_of message.now))) }
-{
-    let mut frame = Vec::new(alloc);
-    encode(message, &mut frame)?;
-    let digits = hex::encode(alloc, frame.as_slice())?;
-    text.extend_from_slice(digits.as_bytes())?;
-    text.push(b'\n')?;
-    Ok(())
-}
-
-/// A sender's stream to the member of a session, in a cluster of this size.
-#[derive(Clone, Copy)]
-struct Stream {
-    alloc: Global,
-    size: Size,
-    from: u8,
-}
-
-/// The value that is due of a kind at a place, if one is.
-#[derive(Clone, Copy)]
-struct Due {
-    kind: Kind,
-    place: Place,
-    value: Option<Value>,
-}
-
-/// Says what is due, and adds its frame.
-fn say(
-    alloc: Global,
-    broadcasts: &mut Broadcasts,
-    due: Due,
-    text: &mut Vec<u8>,
-) -> Result<(), Memory>
-    requires { due.place.origin < (broadcasts_size broadcasts.old).n }
-    ensures text { OnOk result
-        (FitsIf due.place due.value → text.new.items ≡ text.old.items
-        ++ flat_map frame_line (said_if due.kind due.place due.value)) }
-    ensures stands { OnOk result
-        (FitsIf due.place due.value → (past : Past) → BroadcastsStandFor broadcasts.old past →
-        due.place.question ≡ past.question →
-        BroadcastsStandFor broadcasts.new
-        (after_records past (said_if due.kind due.place due.value))) }
-    ensures size { broadcasts_size broadcasts.new ≡ broadcasts_size broadcasts.old }
-{
-    let Some(value) = due.value else {
-        return Ok(());
-    };
-    match Statement::new(due.kind, due.place, value) {
-        None => Ok(()),
-        Some(statement) => {
-            show_frame(alloc, &Message::Statement(statement), text)?;
-            broadcasts.say(&statement)
-        }
-    }
-}
-
-/// Hears the statement, and adds a line for how it was taken and one for each frame that is then
-/// due.
-fn hear(
-    alloc: Global,
-    broadcasts: &mut Broadcasts,
-    from: u8,
-    statement: &Statement,
-    text: &mut Vec<u8>,
-) -> Result<(), Memory>
-    requires from { from < (broadcasts_size broadcasts.old).n }
-    requires origin { statement.now.place.origin < (broadcasts_size broadcasts.old).n }
-    ensures answers { OnOk result
-        ((past : Past) → BroadcastsStandFor broadcasts.old past →
-        statement.now.place.question ≡ past.question → AllFit past →
-        FitsStep statement.now.place.step statement.now.value → (after : Past) × (others : List ℕ)
-        × AnswersStatement from past statement.now after others
-        × BroadcastsStandFor broadcasts.new after × (text.new.items ≡ text.old.items ++ others)) }
-    ensures size { broadcasts_size broadcasts.new ≡ broadcasts_size broadcasts.old }
-{
-    match broadcasts.hear(from, statement)? {
-        Heard::Foreign => text.extend_from_slice(b"foreign\n")?,
-        Heard::Repeat => text.extend_from_slice(b"repeat\n")?,
-        Heard::News => {
-            text.extend_from_slice(b"news\n")?;
-            let place = statement.place();
-            let due = broadcasts.due(place);
-            let echo = Due {
-                kind: Kind::Echo,
-                place,
-                value: due.echo,
-            };
-            say(alloc, broadcasts, echo, text)?;
-            let ready = Due {
-                kind: Kind::Ready,
-                place,
-                value: due.ready,
-            };
-            say(alloc, broadcasts, ready, text)?;
-        }
-    }
-    Ok(())
-}
-
-/// Hears the sender's statement, and adds the answer.
-fn hear_one(
-    stream: &Stream,
-    broadcasts: &mut Vec<Broadcasts>,
-    statement: &Statement,
-    text: &mut Vec<u8>,
-) -> Result<(), Memory>
-    requires has { HasBroadcasts stream.now.size broadcasts.old.items }
-    requires from { stream.now.from < stream.now.size.n }
-    requires well { IsWellFormed stream.now.size statement.now }
-    ensures answers { OnOk result
-        ((h : Hearing) → EachStandsFor stream.now.size broadcasts.old.items h → (after : Hearing)
-        × (others : List ℕ) × AnswersOne stream.now.from h statement.now after others
-        × EachStandsFor stream.now.size broadcasts.new.items after
-        × (text.new.items ≡ text.old.items ++ others)) }
-    ensures has { OnOk result (HasBroadcasts stream.now.size broadcasts.new.items) }
-{
-    let question = usize::from(statement.place().question());
-    hear(
-        stream.alloc,
-        &mut broadcasts[question],
-        stream.from,
-        statement,
-        text,
-    )?;
-    Ok(())
-}
-
-/// Hears the sender's statements in turn, and adds the answers.
-fn hear_each(
-    stream: &Stream,
-    broadcasts: &mut Vec<Broadcasts>,
-    statements: &[Statement],
-    text: &mut Vec<u8>,
-) -> Result<(), Memory>
-    requires has { HasBroadcasts stream.now.size broadcasts.old.items }
-    requires from { stream.now.from < stream.now.size.n }
-    requires well { AllByRecursion (IsWellFormed stream.now.size) statements.now }
-    ensures answers { OnOk result
-        ((h : Hearing) → EachStandsFor stream.now.size broadcasts.old.items h → (after : Hearing)
-        × (others : List ℕ) × InTurn (AnswersOne stream.now.from) h statements.now after others
-        × EachStandsFor stream.now.size broadcasts.new.items after
-        × (text.new.items ≡ text.old.items ++ others)) }
-    ensures has { OnOk result (HasBroadcasts stream.now.size broadcasts.new.items) }
-{
-    for statement in statements {
-        hear_one(stream, broadcasts, statement, text)?;
-    }
-    Ok(())
-}
-
-/// Hears the sender's message, and adds the answer. One without a statement has none.
-fn hear_message(
-    stream: &Stream,
-    broadcasts: &mut Vec<Broadcasts>,
-    message: &Message,
-    text: &mut Vec<u8>,
-) -> Result<(), Memory>
-    requires has { HasBroadcasts stream.now.size broadcasts.old.items }
-    requires from { stream.now.from < stream.now.size.n }
-    requires fits { Fits stream.now.size message.now }
-    ensures answers { OnOk result
-        ((h : Hearing) → EachStandsFor stream.now.size broadcasts.old.items h → (after : Hearing)
-        × (others : List ℕ) × AnswersMessage stream.now.from h message.now after others
-        × EachStandsFor stream.now.size broadcasts.new.items after
-        × (text.new.items ≡ text.old.items ++ others)) }
-    ensures has { OnOk result (HasBroadcasts stream.now.size broadcasts.new.items) }
-{
-    match message {
-        Message::Statement(statement) => {
-            hear_one(stream, broadcasts, statement, text)?;
-            Ok(())
-        }
-        Message::Statements(many) => {
-            hear_each(stream, broadcasts, many.as_slice(), text)?;
-            Ok(())
-        }
-        Message::Idle | Message::Hello { .. } | Message::Welcome { .. } => Ok(()),
-    }
-}
-
-/// Hears the sender's messages in turn, and adds the answers.
-fn hear_all(
-    stream: &Stream,
-    broadcasts: &mut Vec<Broadcasts>,
-    messages: &[Message],
-    text: &mut Vec<u8>,
-) -> Result<(), Memory>
-    requires has { HasBroadcasts stream.now.size broadcasts.old.items }
-    requires from { stream.now.from < stream.now.size.n }
-    requires fits { AllByRecursion (Fits stream.now.size) messages.now }
-    ensures answers { OnOk result
-        ((h : Hearing) → EachStandsFor stream.now.size broadcasts.old.items h → (after : Hearing)
-        × (others : List ℕ) × InTurn (AnswersMessage stream.now.from) h messages.now after others
-        × EachStandsFor stream.now.size broadcasts.new.items after
-        × (text.new.items ≡ text.old.items ++ others)) }
-    ensures has { OnOk result (HasBroadcasts stream.now.size broadcasts.new.items) }
-{
-    for message in messages {
-        hear_message(stream, broadcasts, message, text)?;
-    }
-    Ok(())
-}
-
-/// Adds the line that names the fault.
-fn show_fault(fault: WireFault, text: &mut Vec<u8>) -> Result<(), Memory>
-    ensures { OnOk result
-        (text.new.items ≡ text.old.items ++ line (codes "broken " ++ fault_name fault)) }
-{
-    let name: &str = match fault {
-        WireFault::BadLength => "BadLength",
-        WireFault::BadType => "BadType",
-        WireFault::BadKind => "BadKind",
-        WireFault::BadPlace => "BadPlace",
-        WireFault::BadValue => "BadValue",
-        WireFault::BadHello => "BadHello",
-        WireFault::BadCount => "BadCount",
-    };
-    text.extend_from_slice(b"broken ")?;
-    text.extend_from_slice(name.as_bytes())?;
-    text.push(b'\n')?;
-    Ok(())
-}
-
 /// A feeder for each sender, and the broadcasts of each question.
 #[derive(Drop)]
 pub struct Session {
@@ -338,4 +112,230 @@ impl Session {
             }
         }
     }
+}
+
+/// Hears the sender's messages in turn, and adds the answers.
+fn hear_all(
+    stream: &Stream,
+    broadcasts: &mut Vec<Broadcasts>,
+    messages: &[Message],
+    text: &mut Vec<u8>,
+) -> Result<(), Memory>
+    requires has { HasBroadcasts stream.now.size broadcasts.old.items }
+    requires from { stream.now.from < stream.now.size.n }
+    requires fits { AllByRecursion (Fits stream.now.size) messages.now }
+    ensures answers { OnOk result
+        ((h : Hearing) → EachStandsFor stream.now.size broadcasts.old.items h → (after : Hearing)
+        × (others : List ℕ) × InTurn (AnswersMessage stream.now.from) h messages.now after others
+        × EachStandsFor stream.now.size broadcasts.new.items after
+        × (text.new.items ≡ text.old.items ++ others)) }
+    ensures has { OnOk result (HasBroadcasts stream.now.size broadcasts.new.items) }
+{
+    for message in messages {
+        hear_message(stream, broadcasts, message, text)?;
+    }
+    Ok(())
+}
+
+/// Hears the sender's message, and adds the answer. One without a statement has none.
+fn hear_message(
+    stream: &Stream,
+    broadcasts: &mut Vec<Broadcasts>,
+    message: &Message,
+    text: &mut Vec<u8>,
+) -> Result<(), Memory>
+    requires has { HasBroadcasts stream.now.size broadcasts.old.items }
+    requires from { stream.now.from < stream.now.size.n }
+    requires fits { Fits stream.now.size message.now }
+    ensures answers { OnOk result
+        ((h : Hearing) → EachStandsFor stream.now.size broadcasts.old.items h → (after : Hearing)
+        × (others : List ℕ) × AnswersMessage stream.now.from h message.now after others
+        × EachStandsFor stream.now.size broadcasts.new.items after
+        × (text.new.items ≡ text.old.items ++ others)) }
+    ensures has { OnOk result (HasBroadcasts stream.now.size broadcasts.new.items) }
+{
+    match message {
+        Message::Statement(statement) => {
+            hear_one(stream, broadcasts, statement, text)?;
+            Ok(())
+        }
+        Message::Statements(many) => {
+            hear_each(stream, broadcasts, many.as_slice(), text)?;
+            Ok(())
+        }
+        Message::Idle | Message::Hello { .. } | Message::Welcome { .. } => Ok(()),
+    }
+}
+
+/// Hears the sender's statements in turn, and adds the answers.
+fn hear_each(
+    stream: &Stream,
+    broadcasts: &mut Vec<Broadcasts>,
+    statements: &[Statement],
+    text: &mut Vec<u8>,
+) -> Result<(), Memory>
+    requires has { HasBroadcasts stream.now.size broadcasts.old.items }
+    requires from { stream.now.from < stream.now.size.n }
+    requires well { AllByRecursion (IsWellFormed stream.now.size) statements.now }
+    ensures answers { OnOk result
+        ((h : Hearing) → EachStandsFor stream.now.size broadcasts.old.items h → (after : Hearing)
+        × (others : List ℕ) × InTurn (AnswersOne stream.now.from) h statements.now after others
+        × EachStandsFor stream.now.size broadcasts.new.items after
+        × (text.new.items ≡ text.old.items ++ others)) }
+    ensures has { OnOk result (HasBroadcasts stream.now.size broadcasts.new.items) }
+{
+    for statement in statements {
+        hear_one(stream, broadcasts, statement, text)?;
+    }
+    Ok(())
+}
+
+/// Hears the sender's statement, and adds the answer.
+fn hear_one(
+    stream: &Stream,
+    broadcasts: &mut Vec<Broadcasts>,
+    statement: &Statement,
+    text: &mut Vec<u8>,
+) -> Result<(), Memory>
+    requires has { HasBroadcasts stream.now.size broadcasts.old.items }
+    requires from { stream.now.from < stream.now.size.n }
+    requires well { IsWellFormed stream.now.size statement.now }
+    ensures answers { OnOk result
+        ((h : Hearing) → EachStandsFor stream.now.size broadcasts.old.items h → (after : Hearing)
+        × (others : List ℕ) × AnswersOne stream.now.from h statement.now after others
+        × EachStandsFor stream.now.size broadcasts.new.items after
+        × (text.new.items ≡ text.old.items ++ others)) }
+    ensures has { OnOk result (HasBroadcasts stream.now.size broadcasts.new.items) }
+{
+    let question = usize::from(statement.place().question());
+    hear(
+        stream.alloc,
+        &mut broadcasts[question],
+        stream.from,
+        statement,
+        text,
+    )?;
+    Ok(())
+}
+
+/// A sender's stream to the member of a session, in a cluster of this size.
+#[derive(Clone, Copy)]
+struct Stream {
+    alloc: Global,
+    size: Size,
+    from: u8,
+}
+
+/// Hears the statement, and adds a line for how it was taken and one for each frame that is then
+/// due.
+fn hear(
+    alloc: Global,
+    broadcasts: &mut Broadcasts,
+    from: u8,
+    statement: &Statement,
+    text: &mut Vec<u8>,
+) -> Result<(), Memory>
+    requires from { from < (broadcasts_size broadcasts.old).n }
+    requires origin { statement.now.place.origin < (broadcasts_size broadcasts.old).n }
+    ensures answers { OnOk result
+        ((past : Past) → BroadcastsStandFor broadcasts.old past →
+        statement.now.place.question ≡ past.question → AllFit past →
+        FitsStep statement.now.place.step statement.now.value → (after : Past) × (others : List ℕ)
+        × AnswersStatement from past statement.now after others
+        × BroadcastsStandFor broadcasts.new after × (text.new.items ≡ text.old.items ++ others)) }
+    ensures size { broadcasts_size broadcasts.new ≡ broadcasts_size broadcasts.old }
+{
+    match broadcasts.hear(from, statement)? {
+        Heard::Foreign => text.extend_from_slice(b"foreign\n")?,
+        Heard::Repeat => text.extend_from_slice(b"repeat\n")?,
+        Heard::News => {
+            text.extend_from_slice(b"news\n")?;
+            let place = statement.place();
+            let due = broadcasts.due(place);
+            let echo = Due {
+                kind: Kind::Echo,
+                place,
+                value: due.echo,
+            };
+            say(alloc, broadcasts, echo, text)?;
+            let ready = Due {
+                kind: Kind::Ready,
+                place,
+                value: due.ready,
+            };
+            say(alloc, broadcasts, ready, text)?;
+        }
+    }
+    Ok(())
+}
+
+/// Says what is due, and adds its frame.
+fn say(
+    alloc: Global,
+    broadcasts: &mut Broadcasts,
+    due: Due,
+    text: &mut Vec<u8>,
+) -> Result<(), Memory>
+    requires { due.place.origin < (broadcasts_size broadcasts.old).n }
+    ensures text { OnOk result
+        (FitsIf due.place due.value → text.new.items ≡ text.old.items
+        ++ flat_map frame_line (said_if due.kind due.place due.value)) }
+    ensures stands { OnOk result
+        (FitsIf due.place due.value → (past : Past) → BroadcastsStandFor broadcasts.old past →
+        due.place.question ≡ past.question →
+        BroadcastsStandFor broadcasts.new
+        (after_records past (said_if due.kind due.place due.value))) }
+    ensures size { broadcasts_size broadcasts.new ≡ broadcasts_size broadcasts.old }
+{
+    let Some(value) = due.value else {
+        return Ok(());
+    };
+    match Statement::new(due.kind, due.place, value) {
+        None => Ok(()),
+        Some(statement) => {
+            show_frame(alloc, &Message::Statement(statement), text)?;
+            broadcasts.say(&statement)
+        }
+    }
+}
+
+/// The value that is due of a kind at a place, if one is.
+#[derive(Clone, Copy)]
+struct Due {
+    kind: Kind,
+    place: Place,
+    value: Option<Value>,
+}
+
+/// Adds the frame in lower case hexadecimal digits, and the end of a line.
+fn show_frame(alloc: Global, message: &Message, text: &mut Vec<u8>) -> Result<(), Memory>
+    ensures { OnOk result
+        (text.new.items ≡ text.old.items ++ line (encode_lower (text_of message.now))) }
+{
+    let mut frame = Vec::new(alloc);
+    encode(message, &mut frame)?;
+    let digits = hex::encode(alloc, frame.as_slice())?;
+    text.extend_from_slice(digits.as_bytes())?;
+    text.push(b'\n')?;
+    Ok(())
+}
+
+/// Adds the line that names the fault.
+fn show_fault(fault: WireFault, text: &mut Vec<u8>) -> Result<(), Memory>
+    ensures { OnOk result
+        (text.new.items ≡ text.old.items ++ line (codes "broken " ++ fault_name fault)) }
+{
+    let name: &str = match fault {
+        WireFault::BadLength => "BadLength",
+        WireFault::BadType => "BadType",
+        WireFault::BadKind => "BadKind",
+        WireFault::BadPlace => "BadPlace",
+        WireFault::BadValue => "BadValue",
+        WireFault::BadHello => "BadHello",
+        WireFault::BadCount => "BadCount",
+    };
+    text.extend_from_slice(b"broken ")?;
+    text.extend_from_slice(name.as_bytes())?;
+    text.push(b'\n')?;
+    Ok(())
 }

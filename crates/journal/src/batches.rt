@@ -84,11 +84,18 @@ impl Batches {
     }
 }
 
-/// The bytes from that place on.
-fn rest_from(bytes: &[u8], at: usize) -> &[u8]
-    ensures { result.now ≡ drop at bytes.now }
+/// Looks at a whole file.
+fn check_file(alloc: Global, header: &Header, bytes: &[u8]) -> Result<(), JournalFault>
+    ensures whole { OnOk result
+        ((records : List Record) × (rest : List ℕ) × Holds header.now records bytes.now
+        × TakesBatches header.now (drop 24 bytes.now) records (0 ∷ rest)) }
+    ensures refused { IfErr result
+        (λ fault. IsOfFile fault → RefusesFile header.now fault bytes.now) }
+    ensures only { IfErr result (λ fault. IsOfFile fault ⊎ (fault ≡ Memory)) }
 {
-    if at <= bytes.len() { &bytes[at..] } else { &[] }
+    let behind = behind_header(header, bytes)?;
+    check(alloc, header, behind)?;
+    Ok(())
 }
 
 /// Looks at all batches behind a header.
@@ -109,16 +116,9 @@ fn check(alloc: Global, header: &Header, bytes: &[u8]) -> Result<(), JournalFaul
     }
 }
 
-/// Looks at a whole file.
-fn check_file(alloc: Global, header: &Header, bytes: &[u8]) -> Result<(), JournalFault>
-    ensures whole { OnOk result
-        ((records : List Record) × (rest : List ℕ) × Holds header.now records bytes.now
-        × TakesBatches header.now (drop 24 bytes.now) records (0 ∷ rest)) }
-    ensures refused { IfErr result
-        (λ fault. IsOfFile fault → RefusesFile header.now fault bytes.now) }
-    ensures only { IfErr result (λ fault. IsOfFile fault ⊎ (fault ≡ Memory)) }
+/// The bytes from that place on.
+fn rest_from(bytes: &[u8], at: usize) -> &[u8]
+    ensures { result.now ≡ drop at bytes.now }
 {
-    let behind = behind_header(header, bytes)?;
-    check(alloc, header, behind)?;
-    Ok(())
+    if at <= bytes.len() { &bytes[at..] } else { &[] }
 }

@@ -152,24 +152,6 @@ pub(crate) fn fetch<D: Disk>(alloc: Global, disk: &mut D) -> Result<Vec<u8>, Jou
     Ok(bytes)
 }
 
-/// The bytes behind the header, which is to be this one.
-pub(crate) fn behind_header<'a>(header: &Header, bytes: &'a [u8]) -> Result<&'a [u8], JournalFault>
-    ensures header { OnOk result (HasHeader header.now bytes.now) }
-    ensures behind { IfOk result (λ behind. behind.now ≡ drop 24 bytes.now) }
-    ensures refused { IfErr result (λ fault. RefusesFile header.now fault bytes.now) }
-    ensures only { IfErr result IsOfFile }
-{
-    let Some((front, behind)) = bytes.split_first_chunk::<HEADER>() else {
-        return Err(JournalFault::BadHeader);
-    };
-    match header_of(front) {
-        Some(found) if found == *header => Ok(behind),
-        Some(_) => Err(JournalFault::OtherHeader),
-        None if is_old(front) => Err(JournalFault::OldVersion),
-        None => Err(JournalFault::BadHeader),
-    }
-}
-
 /// Reads a journal's bytes, as a file of it has them: the place of its closed gate, and the records
 /// before it, oldest first. A disk is no part of it, so it is for who keeps a journal's bytes
 /// elsewhere; [`Journal::adopt`](crate::Journal::adopt) reads one from a disk.
@@ -191,4 +173,22 @@ pub fn read_file(
     let behind = behind_header(header, bytes)?;
     let (gate, records) = read(alloc, header, behind)?;
     Ok((HEADER + gate, records))
+}
+
+/// The bytes behind the header, which is to be this one.
+pub(crate) fn behind_header<'a>(header: &Header, bytes: &'a [u8]) -> Result<&'a [u8], JournalFault>
+    ensures header { OnOk result (HasHeader header.now bytes.now) }
+    ensures behind { IfOk result (λ behind. behind.now ≡ drop 24 bytes.now) }
+    ensures refused { IfErr result (λ fault. RefusesFile header.now fault bytes.now) }
+    ensures only { IfErr result IsOfFile }
+{
+    let Some((front, behind)) = bytes.split_first_chunk::<HEADER>() else {
+        return Err(JournalFault::BadHeader);
+    };
+    match header_of(front) {
+        Some(found) if found == *header => Ok(behind),
+        Some(_) => Err(JournalFault::OtherHeader),
+        None if is_old(front) => Err(JournalFault::OldVersion),
+        None => Err(JournalFault::BadHeader),
+    }
 }

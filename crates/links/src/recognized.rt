@@ -22,31 +22,44 @@ pub(crate) fn keep(seen: &mut Vec<u8>, bytes: &[u8])
     }
 }
 
-/// The next of the Welcome that the bytes are, if they are one. It takes no memory.
-pub(crate) fn welcome_of(bytes: &[u8]) -> Option<u64>
-    ensures fits { IfSome result (λ next. next < 2 ^ 64) }
-    ensures some { IfSome result (λ next. bytes.now ≡ frame_bytes (message.Welcome next)) }
-    ensures none { IfNone result (IsNotWelcome bytes.now) }
+/// The Welcome, or the Hello of a cluster of this size, that the bytes are, if they are one. It
+/// takes no memory.
+pub(crate) fn greeting_of(size: Size, bytes: &[u8]) -> Option<Message>
+    ensures fits { IfSome result (Fits size) }
+    ensures some { IfSome result (λ m. bytes.now ≡ frame_bytes m) }
+    ensures none { IfNone result (IsNoGreeting size bytes.now) }
 {
-    let [zero, nine, two, a, b, c, d, e, f, g, h] = bytes else {
-        return None;
-    };
-    if *zero != 0 || *nine != 9 || *two != 2 {
-        return None;
+    if let Some(next) = welcome_of(bytes) {
+        return Some(Message::Welcome { next });
     }
-    Some(u64::from_be_bytes([*a, *b, *c, *d, *e, *f, *g, *h]))
+    hello_of(size, bytes)
 }
 
-/// The numbers of a Hello's bytes.
-#[derive(Clone, Copy, Drop)]
-struct HelloBytes {
-    version: u8,
-    cluster: u64,
-    n: u8,
-    t: u8,
-    questions: u16,
-    from: u8,
-    to: u8,
+/// The Hello of a cluster of this size that the bytes are, if they are one. It takes no memory.
+fn hello_of(size: Size, bytes: &[u8]) -> Option<Message>
+    ensures fits { IfSome result (Fits size) }
+    ensures some { IfSome result (λ m. bytes.now ≡ frame_bytes m) }
+    ensures none { IfNone result (IsNotHello size bytes.now) }
+{
+    let Some(it) = numbers_of(bytes) else {
+        return None;
+    };
+    let Some(version) = version_of(it.version) else {
+        return None;
+    };
+    if it.n != size.n() || it.t != size.t() || it.questions != size.questions() {
+        return None;
+    }
+    if it.from >= size.n() || it.to >= size.n() {
+        return None;
+    }
+    Some(Message::Hello {
+        version,
+        cluster: it.cluster,
+        size,
+        from: it.from,
+        to: it.to,
+    })
 }
 
 /// The numbers of the Hello that the bytes are by their count and their front, if they are one.
@@ -91,6 +104,18 @@ fn numbers_of(bytes: &[u8]) -> Option<HelloBytes>
     })
 }
 
+/// The numbers of a Hello's bytes.
+#[derive(Clone, Copy, Drop)]
+struct HelloBytes {
+    version: u8,
+    cluster: u64,
+    n: u8,
+    t: u8,
+    questions: u16,
+    from: u8,
+    to: u8,
+}
+
 /// The version of that number.
 fn version_of(number: u8) -> Option<Version>
     ensures some { IfSome result (λ version. number ≡ version_byte version) }
@@ -103,42 +128,17 @@ fn version_of(number: u8) -> Option<Version>
     }
 }
 
-/// The Hello of a cluster of this size that the bytes are, if they are one. It takes no memory.
-fn hello_of(size: Size, bytes: &[u8]) -> Option<Message>
-    ensures fits { IfSome result (Fits size) }
-    ensures some { IfSome result (λ m. bytes.now ≡ frame_bytes m) }
-    ensures none { IfNone result (IsNotHello size bytes.now) }
+/// The next of the Welcome that the bytes are, if they are one. It takes no memory.
+pub(crate) fn welcome_of(bytes: &[u8]) -> Option<u64>
+    ensures fits { IfSome result (λ next. next < 2 ^ 64) }
+    ensures some { IfSome result (λ next. bytes.now ≡ frame_bytes (message.Welcome next)) }
+    ensures none { IfNone result (IsNotWelcome bytes.now) }
 {
-    let Some(it) = numbers_of(bytes) else {
+    let [zero, nine, two, a, b, c, d, e, f, g, h] = bytes else {
         return None;
     };
-    let Some(version) = version_of(it.version) else {
-        return None;
-    };
-    if it.n != size.n() || it.t != size.t() || it.questions != size.questions() {
+    if *zero != 0 || *nine != 9 || *two != 2 {
         return None;
     }
-    if it.from >= size.n() || it.to >= size.n() {
-        return None;
-    }
-    Some(Message::Hello {
-        version,
-        cluster: it.cluster,
-        size,
-        from: it.from,
-        to: it.to,
-    })
-}
-
-/// The Welcome, or the Hello of a cluster of this size, that the bytes are, if they are one. It
-/// takes no memory.
-pub(crate) fn greeting_of(size: Size, bytes: &[u8]) -> Option<Message>
-    ensures fits { IfSome result (Fits size) }
-    ensures some { IfSome result (λ m. bytes.now ≡ frame_bytes m) }
-    ensures none { IfNone result (IsNoGreeting size bytes.now) }
-{
-    if let Some(next) = welcome_of(bytes) {
-        return Some(Message::Welcome { next });
-    }
-    hello_of(size, bytes)
+    Some(u64::from_be_bytes([*a, *b, *c, *d, *e, *f, *g, *h]))
 }

@@ -176,65 +176,6 @@ impl<D: Disk> Member<D> {
         self.keep_last(before, heard)
     }
 
-    /// Answers to a bit that is proposed for the question, with this toss. The bit that was
-    /// proposed first stands, in this life or in an earlier one. The records of the answer are
-    /// saved, and then their statements are in the outbox.
-    ///
-    /// Of all faults the first in this order: [`MemberFault::Stopped`];
-    /// [`MemberFault::NoSuchQuestion`]. These change nothing. Then [`MemberFault::Memory`],
-    /// [`MemberFault::JournalFull`] and [`MemberFault::Device`], which stop the member; only
-    /// `Device` comes after a call of the device was made.
-    pub fn propose(&mut self, question: u16, bit: bool, toss: Toss) -> Result<Answer, MemberFault>
-        requires sound { IsSound D.Disk self.old }
-        ensures sound { IsSound D.Disk self.new }
-
-        // It answers what the definitions say, and saves the records of its answer.
-        ensures answer { IfOk result
-            (λ answer. AnswersTo self.old toss.0 (Proposal question bit)
-            (reply_of answer) self.new) }
-        ensures saved { IfOk result
-            (λ answer. HasSaved D.Disk self.old (records_of (reply_of answer)) self.new) }
-        ensures event { IsOneEvent D.Disk toss.0 (Proposal question bit) self.old result self.new }
-
-        // Each refusal has its cause, and leaves what was saved and handed out.
-        ensures ok { OnOk result (refusal self.old (Proposal question bit) ≡ None) }
-        ensures fault { IfErr result
-            (λ fault. HasFailed D.Disk self.old (refusal self.old (Proposal question bit))
-            (IsFull self.old toss.0 (Proposal question bit)) fault self.new) }
-        ensures memory_only_at_first { IsErrOf result MemberFault.Memory →
-            (records : List Record) (heard : List (ℕ × Statement)) →
-            MemberStandsFor self.old records heard →
-            said records Initial (new_place question (member_header self.old).me 1 1) ≡ None }
-        ensures stays { StaysOn D.Disk self.old self.new }
-    {
-        if self.is_stopped() {
-            return Err(MemberFault::Stopped);
-        }
-        let answer = self.core.propose(question, bit, toss);
-        self.keep(answer)
-    }
-
-    /// Stops, and gives the fault that did it.
-    pub(crate) fn stopped_by(&mut self, fault: MemberFault) -> MemberFault
-        ensures stopped { self.new ≡ record self.old { stopped = true } }
-        ensures fault { result ≡ fault }
-    {
-        self.stopped = true;
-        fault
-    }
-
-    /// Stops, takes the records back that are behind the first so many, and gives the fault.
-    #[cold]
-    fn undone_by(&mut self, before: usize, fault: MemberFault) -> MemberFault
-        ensures records { self.new.records.items ≡ take before self.old.records.items }
-        ensures stopped { self.new
-            ≡ record self.old { records = self.new.records; stopped = true } }
-        ensures fault { result ≡ fault }
-    {
-        self.records.truncate(before);
-        self.stopped_by(fault)
-    }
-
     /// Saves what the core answered, whose records are behind the first so many, or stops.
     #[inline(always)]
     fn keep_last(
@@ -279,6 +220,56 @@ impl<D: Disk> Member<D> {
         }
     }
 
+    /// Stops, takes the records back that are behind the first so many, and gives the fault.
+    #[cold]
+    fn undone_by(&mut self, before: usize, fault: MemberFault) -> MemberFault
+        ensures records { self.new.records.items ≡ take before self.old.records.items }
+        ensures stopped { self.new
+            ≡ record self.old { records = self.new.records; stopped = true } }
+        ensures fault { result ≡ fault }
+    {
+        self.records.truncate(before);
+        self.stopped_by(fault)
+    }
+
+    /// Answers to a bit that is proposed for the question, with this toss. The bit that was
+    /// proposed first stands, in this life or in an earlier one. The records of the answer are
+    /// saved, and then their statements are in the outbox.
+    ///
+    /// Of all faults the first in this order: [`MemberFault::Stopped`];
+    /// [`MemberFault::NoSuchQuestion`]. These change nothing. Then [`MemberFault::Memory`],
+    /// [`MemberFault::JournalFull`] and [`MemberFault::Device`], which stop the member; only
+    /// `Device` comes after a call of the device was made.
+    pub fn propose(&mut self, question: u16, bit: bool, toss: Toss) -> Result<Answer, MemberFault>
+        requires sound { IsSound D.Disk self.old }
+        ensures sound { IsSound D.Disk self.new }
+
+        // It answers what the definitions say, and saves the records of its answer.
+        ensures answer { IfOk result
+            (λ answer. AnswersTo self.old toss.0 (Proposal question bit)
+            (reply_of answer) self.new) }
+        ensures saved { IfOk result
+            (λ answer. HasSaved D.Disk self.old (records_of (reply_of answer)) self.new) }
+        ensures event { IsOneEvent D.Disk toss.0 (Proposal question bit) self.old result self.new }
+
+        // Each refusal has its cause, and leaves what was saved and handed out.
+        ensures ok { OnOk result (refusal self.old (Proposal question bit) ≡ None) }
+        ensures fault { IfErr result
+            (λ fault. HasFailed D.Disk self.old (refusal self.old (Proposal question bit))
+            (IsFull self.old toss.0 (Proposal question bit)) fault self.new) }
+        ensures memory_only_at_first { IsErrOf result MemberFault.Memory →
+            (records : List Record) (heard : List (ℕ × Statement)) →
+            MemberStandsFor self.old records heard →
+            said records Initial (new_place question (member_header self.old).me 1 1) ≡ None }
+        ensures stays { StaysOn D.Disk self.old self.new }
+    {
+        if self.is_stopped() {
+            return Err(MemberFault::Stopped);
+        }
+        let answer = self.core.propose(question, bit, toss);
+        self.keep(answer)
+    }
+
     /// Saves what the core answered, or stops.
     #[inline(always)]
     fn keep(&mut self, answer: Result<Answer, CoreFault>) -> Result<Answer, MemberFault>
@@ -305,6 +296,15 @@ impl<D: Disk> Member<D> {
             Err(CoreFault::NoSuchMember) => Err(MemberFault::NoSuchMember),
             Err(_) => Err(self.stopped_by(MemberFault::Memory)),
         }
+    }
+
+    /// Stops, and gives the fault that did it.
+    pub(crate) fn stopped_by(&mut self, fault: MemberFault) -> MemberFault
+        ensures stopped { self.new ≡ record self.old { stopped = true } }
+        ensures fault { result ≡ fault }
+    {
+        self.stopped = true;
+        fault
     }
 }
 

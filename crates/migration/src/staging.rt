@@ -23,51 +23,6 @@ pub struct Staging<E: Disk> {
     draft: Draft<E>,
 }
 
-/// Begins a new file: [`stage`] where the disk isn't wanted back after a fault. What is let go then
-/// is a disk that `stage` may hand back.
-pub fn begin<E: Disk>(alloc: Global, new: E, header: &Header) -> Result<Staging<E>, MigrateFault>
-where
-    E: Release,
-    requires released { (fault : MigrateFault) (after : E) →
-        HasNotStaged E.Disk new header.now fault after → E.may_go after }
-    ensures begun { IfOk result
-        (λ staging. HasBegun E.Disk new header.now (staging_draft staging)) }
-    // `released` speaks of the disk that is gone; this is why it is.
-    ensures fault { IfErr result
-        (λ fault. (after : E) × HasNotStaged E.Disk new header.now fault after) }
-{
-    match stage(alloc, new, header) {
-        Ok(staging) => Ok(staging),
-        Err((fault, file)) => {
-            file.release();
-            Err(fault)
-        }
-    }
-}
-
-/// Begins a new file in an empty one, by three calls of the device: `len`, one write of 25 bytes
-/// whose first is 0, and `sync`.
-///
-/// A fault hands the disk back:
-/// - `NotEmpty`: the file has bytes already. Nothing was written.
-/// - `NewDevice`: the disk failed. The file may have any of the bytes.
-#[tactic(auto, unfolding(crate::specs::Staged::staging_draft))]
-pub fn stage<E: Disk>(
-    alloc: Global,
-    new: E,
-    header: &Header,
-) -> Result<Staging<E>, (MigrateFault, E)>
-    ensures begun { IfOk result
-        (λ staging. HasBegun E.Disk new header.now (staging_draft staging)) }
-    ensures fault { IfErr result
-        (λ refused. HasNotStaged E.Disk new header.now refused.0 refused.1) }
-{
-    match Draft::begin(alloc, new, header) {
-        Ok(draft) => Ok(Staging { draft }),
-        Err((fault, disk)) => Err((MigrateFault::from(fault), disk)),
-    }
-}
-
 impl<E: Disk> Staging<E> {
     /// Brings the old file's records over, and makes the new file a journal:
     /// [`carry`](Staging::carry) where the new disk isn't wanted back after a fault. What is let go
@@ -131,6 +86,51 @@ impl<E: Disk> Staging<E> {
             },
             Err(fault) => Err((fault, draft.into_disk())),
         }
+    }
+}
+
+/// Begins a new file: [`stage`] where the disk isn't wanted back after a fault. What is let go then
+/// is a disk that `stage` may hand back.
+pub fn begin<E: Disk>(alloc: Global, new: E, header: &Header) -> Result<Staging<E>, MigrateFault>
+where
+    E: Release,
+    requires released { (fault : MigrateFault) (after : E) →
+        HasNotStaged E.Disk new header.now fault after → E.may_go after }
+    ensures begun { IfOk result
+        (λ staging. HasBegun E.Disk new header.now (staging_draft staging)) }
+    // `released` speaks of the disk that is gone; this is why it is.
+    ensures fault { IfErr result
+        (λ fault. (after : E) × HasNotStaged E.Disk new header.now fault after) }
+{
+    match stage(alloc, new, header) {
+        Ok(staging) => Ok(staging),
+        Err((fault, file)) => {
+            file.release();
+            Err(fault)
+        }
+    }
+}
+
+/// Begins a new file in an empty one, by three calls of the device: `len`, one write of 25 bytes
+/// whose first is 0, and `sync`.
+///
+/// A fault hands the disk back:
+/// - `NotEmpty`: the file has bytes already. Nothing was written.
+/// - `NewDevice`: the disk failed. The file may have any of the bytes.
+#[tactic(auto, unfolding(crate::specs::Staged::staging_draft))]
+pub fn stage<E: Disk>(
+    alloc: Global,
+    new: E,
+    header: &Header,
+) -> Result<Staging<E>, (MigrateFault, E)>
+    ensures begun { IfOk result
+        (λ staging. HasBegun E.Disk new header.now (staging_draft staging)) }
+    ensures fault { IfErr result
+        (λ refused. HasNotStaged E.Disk new header.now refused.0 refused.1) }
+{
+    match Draft::begin(alloc, new, header) {
+        Ok(draft) => Ok(Staging { draft }),
+        Err((fault, disk)) => Err((MigrateFault::from(fault), disk)),
     }
 }
 

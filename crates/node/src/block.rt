@@ -19,20 +19,6 @@ pub(crate) struct Block {
     full: Arc<Full>,
 }
 
-/// The entries of a block, and a table by which one who looks for a question needn't look through
-/// them.
-#[derive(Drop)]
-struct Full {
-    entries: Vec<CompactEntry>,
-    table: Table,
-}
-
-/// Marks the questions of entries, each at its place.
-#[derive(Clone, Copy)]
-struct Table {
-    marks: [bool; PLACES],
-}
-
 impl Model for Block {
     ghost use Rattle.std.specs.Prelude.{List};
     ghost use Rattle.std.specs.Arc.{arc_value};
@@ -45,38 +31,6 @@ impl Model for Block {
 
     ghost invariant = { λ block. AreMarkedIn (arc_value block.full).table.marks
         (arc_value block.full).entries.items };
-}
-
-impl Table {
-    /// Marks the question of the entry.
-    fn mark(&mut self, entry: &CompactEntry)
-        ensures { (past : List Entry) → AreMarkedIn self.old.marks past →
-            AreMarkedIn self.new.marks (past ++ entry.now ∷ []) }
-    {
-        self.marks[usize::from(entry.question()) % PLACES] = true;
-    }
-
-    /// Tells that nothing of the entries is on the question; where the table can't tell, it says
-    /// no.
-    fn is_without(&self, question: u16) -> bool
-        ensures { (entries : List Entry) → AreMarkedIn self.now.marks entries → IsTrue result →
-            heard_on question entries ≡ [] }
-    {
-        !self.marks[usize::from(question) % PLACES]
-    }
-}
-
-/// Marks the questions of the entries.
-fn table_of(entries: &[CompactEntry]) -> Table
-    ensures { AreMarkedIn result.marks entries.now }
-{
-    let mut table = Table {
-        marks: [false; PLACES],
-    };
-    for entry in entries {
-        table.mark(entry);
-    }
-    table
 }
 
 impl Block {
@@ -113,4 +67,50 @@ impl Block {
     {
         self.full.entries.as_slice()
     }
+}
+
+/// The entries of a block, and a table by which one who looks for a question needn't look through
+/// them.
+#[derive(Drop)]
+struct Full {
+    entries: Vec<CompactEntry>,
+    table: Table,
+}
+
+/// Marks the questions of entries, each at its place.
+#[derive(Clone, Copy)]
+struct Table {
+    marks: [bool; PLACES],
+}
+
+impl Table {
+    /// Marks the question of the entry.
+    fn mark(&mut self, entry: &CompactEntry)
+        ensures { (past : List Entry) → AreMarkedIn self.old.marks past →
+            AreMarkedIn self.new.marks (past ++ entry.now ∷ []) }
+    {
+        self.marks[usize::from(entry.question()) % PLACES] = true;
+    }
+
+    /// Tells that nothing of the entries is on the question; where the table can't tell, it says
+    /// no.
+    fn is_without(&self, question: u16) -> bool
+        ensures { (entries : List Entry) → AreMarkedIn self.now.marks entries → IsTrue result →
+            heard_on question entries ≡ [] }
+    {
+        !self.marks[usize::from(question) % PLACES]
+    }
+}
+
+/// Marks the questions of the entries.
+fn table_of(entries: &[CompactEntry]) -> Table
+    ensures { AreMarkedIn result.marks entries.now }
+{
+    let mut table = Table {
+        marks: [false; PLACES],
+    };
+    for entry in entries {
+        table.mark(entry);
+    }
+    table
 }

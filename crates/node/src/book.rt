@@ -670,44 +670,6 @@ impl<D: Disk, J: Naming> Book<D, J> {
     }
 }
 
-/// Notes a group in the account once there is room for as many entries. Where there isn't, or the
-/// account is full, it stays.
-fn make_ready<J: Naming>(
-    history: &mut History,
-    account: &mut Account<J>,
-    events: &Vec<(u8, Statement, Toss)>,
-) -> bool
-    ensures entries { history.new.entries ≡ history.old.entries }
-    ensures room { result ≡ true → length events.now.items ≤ history.new.room }
-    ensures account { MatchBool result
-        (account.new ≡ with_group account.old (hearings events.now.items))
-        (account.new ≡ account.old) }
-    ensures some { result ≡ false → 0 < length events.now.items }
-{
-    if !history.make_room(events.len()) {
-        return false;
-    }
-    events.is_empty() || account.add(events)
-}
-
-/// Tells whether there is nothing to count, or the account is no shorter than it was seen.
-fn goes_on<J: Naming>(account: &Account<J>, seen: &Witness<J>, events: &[(Statement, Toss)]) -> bool
-    ensures begins { result ≡ true → 0 < length events.now → IsPrefix seen.now account.now }
-    ensures some { result ≡ false → 0 < length events.now }
-{
-    events.is_empty() || account.begins_with(seen)
-}
-
-/// Keeps how far the account is seen then, if there was anything to count.
-fn see<J: Naming>(seen: &mut Witness<J>, after: Witness<J>, events: &[(Statement, Toss)])
-    ensures none { length events.now ≡ 0 → seen.new ≡ seen.old }
-    ensures some { 0 < length events.now → seen.new ≡ after }
-{
-    if !events.is_empty() {
-        *seen = after;
-    }
-}
-
 /// Notes a statement in the account, as a group, once there is room for one more entry and one more
 /// first, where the account is no shorter than it was seen. Else, or where the account is full, it
 /// stays.
@@ -737,15 +699,54 @@ fn make_ready_for_one<J: Naming>(
     account.add_one(one)
 }
 
-/// Adds the entry where the answer takes it.
-pub(crate) fn add_if_taken(history: &mut History, entry: Entry, answer: &Answer)
-    requires { 0 < history.old.room }
-    ensures entries { history.new.entries
-        ≡ lengthened history.old.entries (noted entry) (reply_of answer.now) }
-    ensures room { history.old.room ≤ history.new.room + 1 }
+/// Tells whether there is nothing to count, or the account is no shorter than it was seen.
+fn goes_on<J: Naming>(account: &Account<J>, seen: &Witness<J>, events: &[(Statement, Toss)]) -> bool
+    ensures begins { result ≡ true → 0 < length events.now → IsPrefix seen.now account.now }
+    ensures some { result ≡ false → 0 < length events.now }
 {
-    if let Answer::Taken(_) = answer {
-        history.push_reserved(entry);
+    events.is_empty() || account.begins_with(seen)
+}
+
+/// Keeps how far the account is seen then, if there was anything to count.
+fn see<J: Naming>(seen: &mut Witness<J>, after: Witness<J>, events: &[(Statement, Toss)])
+    ensures none { length events.now ≡ 0 → seen.new ≡ seen.old }
+    ensures some { 0 < length events.now → seen.new ≡ after }
+{
+    if !events.is_empty() {
+        *seen = after;
+    }
+}
+
+/// Notes a group in the account once there is room for as many entries. Where there isn't, or the
+/// account is full, it stays.
+fn make_ready<J: Naming>(
+    history: &mut History,
+    account: &mut Account<J>,
+    events: &Vec<(u8, Statement, Toss)>,
+) -> bool
+    ensures entries { history.new.entries ≡ history.old.entries }
+    ensures room { result ≡ true → length events.now.items ≤ history.new.room }
+    ensures account { MatchBool result
+        (account.new ≡ with_group account.old (hearings events.now.items))
+        (account.new ≡ account.old) }
+    ensures some { result ≡ false → 0 < length events.now.items }
+{
+    if !history.make_room(events.len()) {
+        return false;
+    }
+    events.is_empty() || account.add(events)
+}
+
+/// Publishes the decisions of the questions that the records of these answers decide.
+fn publish_all<D: Disk>(member: &Member<D>, publisher: &mut Publisher, answers: &[Answer])
+    requires sound { IsSound D.Disk member.now }
+    requires decided { AreDecided (member_saved member.now) publisher.old.known }
+    ensures cells { publisher.new.cells ≡ publisher.old.cells }
+    ensures decided { AreDecided (member_saved member.now) publisher.new.known }
+    ensures more { KnowsMore publisher.old.known publisher.new.known }
+{
+    for answer in answers {
+        publish(member, publisher, records_in(answer));
     }
 }
 
@@ -764,19 +765,6 @@ fn publish<D: Disk>(member: &Member<D>, publisher: &mut Publisher, records: &[Re
     }
 }
 
-/// Publishes the decisions of the questions that the records of these answers decide.
-fn publish_all<D: Disk>(member: &Member<D>, publisher: &mut Publisher, answers: &[Answer])
-    requires sound { IsSound D.Disk member.now }
-    requires decided { AreDecided (member_saved member.now) publisher.old.known }
-    ensures cells { publisher.new.cells ≡ publisher.old.cells }
-    ensures decided { AreDecided (member_saved member.now) publisher.new.known }
-    ensures more { KnowsMore publisher.old.known publisher.new.known }
-{
-    for answer in answers {
-        publish(member, publisher, records_in(answer));
-    }
-}
-
 /// Publishes the decision of the question, if there is one.
 fn publish_one<D: Disk>(member: &Member<D>, publisher: &mut Publisher, question: u16)
     requires sound { IsSound D.Disk member.now }
@@ -787,5 +775,17 @@ fn publish_one<D: Disk>(member: &Member<D>, publisher: &mut Publisher, question:
 {
     if let Some(ruling) = member.ruling(question) {
         publisher.publish(ruling);
+    }
+}
+
+/// Adds the entry where the answer takes it.
+pub(crate) fn add_if_taken(history: &mut History, entry: Entry, answer: &Answer)
+    requires { 0 < history.old.room }
+    ensures entries { history.new.entries
+        ≡ lengthened history.old.entries (noted entry) (reply_of answer.now) }
+    ensures room { history.old.room ≤ history.new.room + 1 }
+{
+    if let Answer::Taken(_) = answer {
+        history.push_reserved(entry);
     }
 }

@@ -1,5 +1,5 @@
 //! The line in front of the book: what several links hand in while a batch is on its way to the
-//! disk is heard as one group. Begin at `Line`, and at `hear`, last.
+//! disk is heard as one group. Begin at `Line`, and at `hear`.
 ghost use Rattle.std.specs.Prelude.{◌≡◌, IfSome, IsTrue, List, Result};
 ghost use Rattle.member.specs.Groups.{hearings};
 ghost use Rattle.member.specs.declared.fault.MemberFault.{MemberFault};
@@ -28,16 +28,6 @@ const READ: usize = 73;
 /// or it refused them, or there was no memory to hand them in.
 pub(crate) type Outcome<J> = Result<Witness<J>, MemberFault>;
 
-/// The same for one more.
-fn again<J: Naming>(outcome: &Outcome<J>) -> Outcome<J>
-    ensures { result ≡ outcome.now }
-{
-    match outcome {
-        Ok(after) => Ok(after.again()),
-        Err(fault) => Err(*fault),
-    }
-}
-
 /// A group and what came of it.
 #[derive(Drop)]
 pub(crate) struct HeardGroup<D, J: Naming> {
@@ -55,38 +45,6 @@ impl<D, J: Naming> Model for HeardGroup<D, J> {
     ghost view = { λ _. tt };
 
     ghost invariant = { λ heard. HasCome D (hearings heard.group) heard.outcome };
-}
-
-/// An answered piece: what a link handed in, and what came of it.
-#[derive(Drop)]
-struct Answered<D, J: Naming> {
-    events: Vec<(u8, Statement, Toss)>,
-    outcome: Outcome<J>,
-    of: PhantomData<D>,
-}
-
-impl<D, J: Naming> Model for Answered<D, J> {
-    ghost use Rattle.member.specs.Groups.{hearings};
-    ghost use Rattle.node.specs.Lines.{HasCome};
-
-    ghost Value = { Unit {0} };
-
-    ghost view = { λ _. tt };
-
-    ghost invariant = { λ answered. HasCome D (hearings answered.events.items) answered.outcome };
-}
-
-/// The place of a link in the line.
-#[derive(Drop)]
-enum Slot<D, J: Naming> {
-    /// The link hands nothing in.
-    Free,
-    /// This waits for the book.
-    Waits(Vec<(u8, Statement, Toss)>),
-    /// The pieces that waited are on their way through the book.
-    Away,
-    /// The book has answered.
-    Answered(Answered<D, J>),
 }
 
 /// A place for each link. Who serves the line takes what waits, has the book hear it as one group,
@@ -140,11 +98,6 @@ impl<D, J: Naming> Line<D, J> {
         Some(outcome)
     }
 
-    /// Returns `true` if something waits.
-    pub(crate) fn has_waiting(&self) -> bool {
-        self.slots.iter().any(|slot| slot.waits())
-    }
-
     /// Returns `true` if what waits may be all that a group takes: what one more read gives might
     /// have no room in it.
     pub(crate) fn is_full(&self) -> bool {
@@ -170,19 +123,6 @@ impl<D, J: Naming> Line<D, J> {
         group
     }
 
-    /// Returns `true` if the bell is to ring for the group that was taken last: not while more
-    /// waits than that had room for, which is the next group, but at most 7 times in a row. So
-    /// writers are woken less often where there is much to say, and each of them has more to send.
-    pub(crate) fn is_to_ring(&mut self) -> bool {
-        let rings = !self.has_waiting() || self.quiet >= QUIET;
-        self.quiet = if rings {
-            0
-        } else {
-            self.quiet.saturating_add(1)
-        };
-        rings
-    }
-
     /// Moves what waits at a place into a group, if it has room; says whether it did.
     fn move_to(&mut self, group: &mut Group, at: usize) -> bool {
         let Some(slot) = self.slots.get_mut(at) else {
@@ -201,6 +141,24 @@ impl<D, J: Naming> Line<D, J> {
                 false
             }
         }
+    }
+
+    /// Returns `true` if the bell is to ring for the group that was taken last: not while more
+    /// waits than that had room for, which is the next group, but at most 7 times in a row. So
+    /// writers are woken less often where there is much to say, and each of them has more to send.
+    pub(crate) fn is_to_ring(&mut self) -> bool {
+        let rings = !self.has_waiting() || self.quiet >= QUIET;
+        self.quiet = if rings {
+            0
+        } else {
+            self.quiet.saturating_add(1)
+        };
+        rings
+    }
+
+    /// Returns `true` if something waits.
+    pub(crate) fn has_waiting(&self) -> bool {
+        self.slots.iter().any(|slot| slot.waits())
     }
 
     /// Leaves the answers of a group that was heard. What waits for want of memory, so that it is
@@ -227,6 +185,13 @@ impl<D, J: Naming> Line<D, J> {
         }
     }
 
+    /// Refuses what waits for want of memory.
+    fn refuse(&mut self) {
+        for slot in self.slots.iter_mut() {
+            slot.refuse();
+        }
+    }
+
     /// Returns whom to wake behind a group, a bit for each link, the lowest of them that of link 0:
     /// those that were answered, and the first that waits, which serves the line next.
     pub(crate) fn to_wake(&self) -> u64 {
@@ -243,13 +208,19 @@ impl<D, J: Naming> Line<D, J> {
         }
         links
     }
+}
 
-    /// Refuses what waits for want of memory.
-    fn refuse(&mut self) {
-        for slot in self.slots.iter_mut() {
-            slot.refuse();
-        }
-    }
+/// The place of a link in the line.
+#[derive(Drop)]
+enum Slot<D, J: Naming> {
+    /// The link hands nothing in.
+    Free,
+    /// This waits for the book.
+    Waits(Vec<(u8, Statement, Toss)>),
+    /// The pieces that waited are on their way through the book.
+    Away,
+    /// The book has answered.
+    Answered(Answered<D, J>),
 }
 
 impl<D, J: Naming> Slot<D, J> {
@@ -296,6 +267,25 @@ impl<D, J: Naming> Slot<D, J> {
     }
 }
 
+/// An answered piece: what a link handed in, and what came of it.
+#[derive(Drop)]
+struct Answered<D, J: Naming> {
+    events: Vec<(u8, Statement, Toss)>,
+    outcome: Outcome<J>,
+    of: PhantomData<D>,
+}
+
+impl<D, J: Naming> Model for Answered<D, J> {
+    ghost use Rattle.member.specs.Groups.{hearings};
+    ghost use Rattle.node.specs.Lines.{HasCome};
+
+    ghost Value = { Unit {0} };
+
+    ghost view = { λ _. tt };
+
+    ghost invariant = { λ answered. HasCome D (hearings answered.events.items) answered.outcome };
+}
+
 impl<D, J: Naming> Answered<D, J> {
     /// Returns what came of these statements of the peer, if it is these that were answered.
     fn outcome_of(&self, peer: u8, events: &[(Statement, Toss)]) -> Option<Outcome<J>>
@@ -328,6 +318,16 @@ fn is_of(heard: &(u8, Statement, Toss), peer: u8, event: &(Statement, Toss)) -> 
     ensures { result ≡ is_of heard.now peer event.now }
 {
     heard.0 == peer && is_same(&heard.1, &event.0) && heard.2.0 == event.1.0
+}
+
+/// The same for one more.
+fn again<J: Naming>(outcome: &Outcome<J>) -> Outcome<J>
+    ensures { result ≡ outcome.now }
+{
+    match outcome {
+        Ok(after) => Ok(after.again()),
+        Err(fault) => Err(*fault),
+    }
 }
 
 /// Has the book hear a group, and does nothing else to it.

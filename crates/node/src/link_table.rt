@@ -33,25 +33,6 @@ impl Model for LinkTable {
         record { incoming = table.incoming.items; outgoing = table.outgoing.items } };
 }
 
-/// Returns how many of these are true.
-fn count_true(flags: &[bool]) -> usize
-    ensures { result ≡ count_true flags.now }
-{
-    flags.iter().filter(|flag| **flag).count()
-}
-
-/// Sets the flag at that place; past the last place nothing changes.
-fn set_at(flags: &mut [bool], at: u8, up: bool)
-    ensures within { at < length flags.old → flags.new ≡ slice_set flags.old at up }
-    ensures past { length flags.old ≤ at → flags.new ≡ flags.old }
-{
-    let at = usize::from(at);
-    if at >= flags.len() {
-        return;
-    }
-    flags[at] = up;
-}
-
 impl LinkTable {
     /// No link of so many members is up.
     pub(crate) fn new(alloc: Global, members: u8) -> Result<LinkTable, Memory>
@@ -89,4 +70,23 @@ impl LinkTable {
             outgoing: count_true(&self.outgoing),
         }
     }
+}
+
+/// Returns how many of these are true.
+fn count_true(flags: &[bool]) -> usize
+    ensures { result ≡ count_true flags.now }
+{
+    flags.iter().filter(|flag| **flag).count()
+}
+
+/// Sets the flag at that place; past the last place nothing changes.
+fn set_at(flags: &mut [bool], at: u8, up: bool)
+    ensures within { at < length flags.old → flags.new ≡ slice_set flags.old at up }
+    ensures past { length flags.old ≤ at → flags.new ≡ flags.old }
+{
+    let at = usize::from(at);
+    if at >= flags.len() {
+        return;
+    }
+    flags[at] = up;
 }

@@ -118,15 +118,6 @@ impl<D: Disk, J: Naming> Published<D, J> {
         self.decisions.len()
     }
 
-    /// Returns how far the member was when the book was shown last: how many statements were in its
-    /// outbox, and how many questions it had decided; none where it was stopped.
-    pub(crate) fn status(&self) -> Option<(u64, u16)>
-        ensures status { result ≡ self.now.status }
-        ensures standing { IsStanding D J.header J.opening self.now.log result }
-    {
-        self.status
-    }
-
     /// The same, for a pass of the book's board, which sees how far the account was then; none, and
     /// the pass is as it was, if it saw more.
     pub(crate) fn tell(&self, pass: &mut Pass) -> Option<Option<(u64, u16)>>
@@ -140,6 +131,15 @@ impl<D: Disk, J: Naming> Published<D, J> {
             return None;
         }
         Some(self.status())
+    }
+
+    /// Returns how far the member was when the book was shown last: how many statements were in its
+    /// outbox, and how many questions it had decided; none where it was stopped.
+    pub(crate) fn status(&self) -> Option<(u64, u16)>
+        ensures status { result ≡ self.now.status }
+        ensures standing { IsStanding D J.header J.opening self.now.log result }
+    {
+        self.status
     }
 
     /// Returns how many statements are shown.

@@ -38,18 +38,6 @@ pub(crate) fn state_at(progress: Option<(u8, u8)>) -> QuestionState
     }
 }
 
-/// The state of a question at the member of a book, which is one of its hub's.
-pub(crate) fn state_of<D: Disk, J: Naming>(
-    book: &Book<D, J>,
-    question: u16,
-) -> Option<QuestionState>
-    ensures { IsStateOf D J.header J.opening book.now.log question result }
-{
-    let _named = book.header();
-    let _replayed = book.records();
-    book.state(question)
-}
-
 /// The same, for a pass of the book's board, which sees how far the book is; none, and the pass is
 /// as it was, if it saw more.
 pub(crate) fn state_for<D: Disk, J: Naming>(
@@ -67,4 +55,16 @@ pub(crate) fn state_for<D: Disk, J: Naming>(
         return None;
     }
     Some(state_of(book, question))
+}
+
+/// The state of a question at the member of a book, which is one of its hub's.
+pub(crate) fn state_of<D: Disk, J: Naming>(
+    book: &Book<D, J>,
+    question: u16,
+) -> Option<QuestionState>
+    ensures { IsStateOf D J.header J.opening book.now.log question result }
+{
+    let _named = book.header();
+    let _replayed = book.records();
+    book.state(question)
 }

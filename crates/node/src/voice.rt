@@ -23,11 +23,6 @@ impl Voice {
         }
     }
 
-    /// Returns `true` if it only listens. It waits for nobody.
-    pub(crate) fn listens(&self) -> bool {
-        self.listens.load(Ordering::SeqCst)
-    }
-
     /// Has the member only listen from now on, or speak: then who waits goes on.
     pub(crate) fn set<R: Wait>(&self, rt: &R, listens: bool) {
         let _turn = self.turn.lock(rt);
@@ -48,5 +43,10 @@ impl Voice {
             turn = self.changed.wait(rt, turn);
         }
         unreachable!()
+    }
+
+    /// Returns `true` if it only listens. It waits for nobody.
+    pub(crate) fn listens(&self) -> bool {
+        self.listens.load(Ordering::SeqCst)
     }
 }

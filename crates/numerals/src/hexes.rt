@@ -7,13 +7,6 @@ use hex::FromHexError;
 use std::alloc::Global;
 use terms::Memory;
 
-/// Returns `true` if memory was refused.
-fn is_refusal(error: &FromHexError) -> bool
-    ensures { IsTrue result ↔ (error.now ≡ FromHexError.OutOfMemory) }
-{
-    matches!(error, FromHexError::OutOfMemory)
-}
-
 /// The bytes, at least one, that the word writes in hexadecimal digits of either case. [`Memory`]:
 /// no room for them.
 pub fn bytes(alloc: Global, word: &[u8]) -> Result<Option<Vec<u8>>, Memory>
@@ -27,6 +20,13 @@ pub fn bytes(alloc: Global, word: &[u8]) -> Result<Option<Vec<u8>>, Memory>
         Err(error) if is_refusal(&error) => Err(Memory),
         Err(_) => Ok(None),
     }
+}
+
+/// Returns `true` if memory was refused.
+fn is_refusal(error: &FromHexError) -> bool
+    ensures { IsTrue result ↔ (error.now ≡ FromHexError.OutOfMemory) }
+{
+    matches!(error, FromHexError::OutOfMemory)
 }
 
 /// The byte that the word writes in two hexadecimal digits. [`Memory`]: no room to read it.

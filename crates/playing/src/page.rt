@@ -41,33 +41,6 @@ const DECIDED: &str = "\"decided\":[[\"member\",\"question\",\"round\",\"bit\"]"
 /// The end of the decisions, and the headings of the columns of events.
 const ROWS: &str = "],\n\"rows\":[[\"event\",\"line\",\"records\"]";
 
-/// Returns what stands between a run's name and its events.
-fn fields_json(alloc: Global, run: &Run<'_>) -> Result<String, AllocError>
-    ensures { IfOk result
-        (λ text. string_bytes text ≡ fields_json run.now.size run.now.liars.now
-        run.now.outcome.now) }
-{
-    let size = size_json(alloc, run.size, run.liars)?;
-    let counts = counts_json(alloc, &run.outcome.marks)?;
-    let decided = verdict_rows(alloc, &run.outcome.verdicts)?;
-    format!(in alloc; "{size}{counts}{}{decided}{}", DECIDED, ROWS)
-}
-
-/// Writes the object of a run in JSON.
-fn write_run<W: Write>(alloc: Global, run: &Run<'_>, output: &mut W) -> io::Result<()>
-    ensures { OnOk result
-        (Appends (W.contents output.old) (W.contents output.new)
-        (run_json run.now.name.now run.now.size run.now.liars.now run.now.events.now
-        run.now.outcome.now)) }
-{
-    let name = name_json(alloc, run.name)?;
-    output.write_all(&name)?;
-    let fields = fields_json(alloc, run)?;
-    output.write_all(fields.as_bytes())?;
-    write_rows(alloc, run.events, run.outcome, output)?;
-    output.write_all(b"]}\n")
-}
-
 /// Writes a page that plays a run: the template, and between its parts the run as an object in
 /// JSON, in which no `<` of its name stands. The object has the name, the size, the liars and the
 /// counts of events, each decision that a correct member has saved, and a row for each event that
@@ -93,4 +66,31 @@ pub fn write_page<W: Write>(
     output.write_all(template.before.as_bytes())?;
     write_run(alloc, run, output)?;
     output.write_all(template.after.as_bytes())
+}
+
+/// Writes the object of a run in JSON.
+fn write_run<W: Write>(alloc: Global, run: &Run<'_>, output: &mut W) -> io::Result<()>
+    ensures { OnOk result
+        (Appends (W.contents output.old) (W.contents output.new)
+        (run_json run.now.name.now run.now.size run.now.liars.now run.now.events.now
+        run.now.outcome.now)) }
+{
+    let name = name_json(alloc, run.name)?;
+    output.write_all(&name)?;
+    let fields = fields_json(alloc, run)?;
+    output.write_all(fields.as_bytes())?;
+    write_rows(alloc, run.events, run.outcome, output)?;
+    output.write_all(b"]}\n")
+}
+
+/// Returns what stands between a run's name and its events.
+fn fields_json(alloc: Global, run: &Run<'_>) -> Result<String, AllocError>
+    ensures { IfOk result
+        (λ text. string_bytes text ≡ fields_json run.now.size run.now.liars.now
+        run.now.outcome.now) }
+{
+    let size = size_json(alloc, run.size, run.liars)?;
+    let counts = counts_json(alloc, &run.outcome.marks)?;
+    let decided = verdict_rows(alloc, &run.outcome.verdicts)?;
+    format!(in alloc; "{size}{counts}{}{decided}{}", DECIDED, ROWS)
 }

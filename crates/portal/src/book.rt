@@ -58,25 +58,6 @@ pub(crate) struct Book {
     sum: u64,
 }
 
-/// Returns a member of which nothing is known.
-fn new_view(alloc: Global) -> MemberView {
-    MemberView {
-        state: MemberState::Silent,
-        coming: 0,
-        going: 0,
-        statements: 0,
-        decided: 0,
-        first: 0,
-        contradicts: Vec::new(alloc),
-    }
-}
-
-/// Returns the first 64 events at most.
-fn first_of(events: &[Event]) -> &[Event] {
-    let most = events.len().min(64);
-    &events[..most]
-}
-
 impl Book {
     /// Returns a book of a cluster or chain of which nothing is known.
     pub(crate) fn new(alloc: Global, scope: Scope) -> Result<Book, AllocError> {
@@ -102,19 +83,6 @@ impl Book {
         })
     }
 
-    /// Returns the number of the last event.
-    pub(crate) fn last(&self) -> u64 {
-        self.before.saturating_add(self.events.len() as u64)
-    }
-
-    /// Notes an event. If memory for it is refused, followers load everything anew.
-    fn note(&mut self, event: Event) {
-        if self.events.len() >= MOST_EVENTS || self.events.push(event).is_err() {
-            self.before = self.last().saturating_add(1);
-            self.events = Vec::new(self.alloc);
-        }
-    }
-
     /// Returns the events after this number, 64 at most. `None` if they aren't kept, or there was
     /// no such number.
     pub(crate) fn after(&self, number: u64) -> Option<&[Event]> {
@@ -129,46 +97,14 @@ impl Book {
         Some(first_of(&events[skipped..]))
     }
 
-    /// Returns the watch.
-    pub(crate) fn watch(&self) -> &Watch
-        ensures { (heard : List Told) × Watches result.now heard }
-    {
-        self.hearing.watch()
-    }
-
-    /// Returns the decision of a question: the bit that more than t members told.
-    pub(crate) fn decision(&self, question: u64) -> Option<bool> {
-        self.hearing.watch().decision(question)
-    }
-
-    /// Returns the bit that a member told of a question.
-    pub(crate) fn word_of(&self, question: u64, member: u8) -> Option<bool> {
-        self.hearing.watch().word_of(question, member)
-    }
-
     /// Returns `true` if the question is one of the window and isn't decided.
     pub(crate) fn awaits(&self, question: u64) -> bool {
         self.watch().refusal(question).is_none() && self.decision(question).is_none()
     }
 
-    /// Returns the first question of the window, and the one after the last.
-    fn window(&self) -> (u64, u64) {
-        (self.watch().first(), self.watch().within(u64::MAX))
-    }
-
     /// Counts a request that was refused.
     pub(crate) fn count_refusal(&mut self) {
         self.refusals = self.refusals.saturating_add(1);
-    }
-
-    /// Returns the stage of a question.
-    pub(crate) fn stage(&self, question: u64) -> Stage {
-        self.notes.at(question).stage
-    }
-
-    /// Returns the state of a question.
-    pub(crate) fn standing(&self, question: u64) -> Standing {
-        standing_of(self.decision(question), self.stage(question))
     }
 
     /// Returns the states of questions of the window.
@@ -178,65 +114,6 @@ impl Book {
             standings.push(self.standing(question))?;
         }
         Ok(standings)
-    }
-
-    /// Notes that a question of the window is under way.
-    fn begin(&mut self, question: u64) {
-        let note = self.notes.at(question);
-        if note.stage == Stage::Unproposed {
-            self.notes.put(Note {
-                stage: Stage::Proposed,
-                ..note
-            });
-            self.note(Event::Proposed(question));
-        }
-    }
-
-    /// Returns the milliseconds from the proposal of the question to this moment, if it was
-    /// proposed here.
-    fn time_of(&self, question: u64, time: u64) -> Option<u32> {
-        match self.notes.at(question).begun {
-            Some(begun) => Some(u32::try_from(time.saturating_sub(begun)).unwrap_or(u32::MAX)),
-            None => None,
-        }
-    }
-
-    /// Counts the milliseconds from a proposal to its decision.
-    fn count_time(&mut self, ms: u32) {
-        if self.times.note(self.alloc, ms).is_ok() {
-            self.sum = self.sum.saturating_add(u64::from(ms));
-        }
-    }
-
-    /// Notes a decision that is new.
-    fn decide(&mut self, question: u64, bit: bool, time: u64) {
-        let ms = self.time_of(question, time);
-        self.decisions = self.decisions.saturating_add(1);
-        self.recent.note(time);
-        if let Some(ms) = ms {
-            self.count_time(ms);
-        }
-        self.note(Event::Decided {
-            question,
-            bit,
-            ms,
-            time,
-        });
-        for member in 0..self.scope.size.n() {
-            if let Some(bit) = self.watch().contradiction(question, member) {
-                self.note(Event::Contradiction {
-                    member,
-                    question,
-                    bit,
-                });
-            }
-        }
-    }
-
-    /// Notes that a member of a chain has come to a slot: the window moves ahead once more than t
-    /// members have.
-    pub(crate) fn reach(&mut self, member: u8, slot: u64) -> Result<(), AllocError> {
-        self.hearing.reach(self.alloc, member, slot)
     }
 
     /// Takes a decision that a member told. Returns `false` if it comes after the window of a
@@ -275,19 +152,61 @@ impl Book {
         }
     }
 
+    /// Notes a decision that is new.
+    fn decide(&mut self, question: u64, bit: bool, time: u64) {
+        let ms = self.time_of(question, time);
+        self.decisions = self.decisions.saturating_add(1);
+        self.recent.note(time);
+        if let Some(ms) = ms {
+            self.count_time(ms);
+        }
+        self.note(Event::Decided {
+            question,
+            bit,
+            ms,
+            time,
+        });
+        for member in 0..self.scope.size.n() {
+            if let Some(bit) = self.watch().contradiction(question, member) {
+                self.note(Event::Contradiction {
+                    member,
+                    question,
+                    bit,
+                });
+            }
+        }
+    }
+
+    /// Returns the milliseconds from the proposal of the question to this moment, if it was
+    /// proposed here.
+    fn time_of(&self, question: u64, time: u64) -> Option<u32> {
+        match self.notes.at(question).begun {
+            Some(begun) => Some(u32::try_from(time.saturating_sub(begun)).unwrap_or(u32::MAX)),
+            None => None,
+        }
+    }
+
+    /// Counts the milliseconds from a proposal to its decision.
+    fn count_time(&mut self, ms: u32) {
+        if self.times.note(self.alloc, ms).is_ok() {
+            self.sum = self.sum.saturating_add(u64::from(ms));
+        }
+    }
+
+    /// Returns the bit that a member told of a question.
+    pub(crate) fn word_of(&self, question: u64, member: u8) -> Option<bool> {
+        self.hearing.watch().word_of(question, member)
+    }
+
+    /// Notes that a member of a chain has come to a slot: the window moves ahead once more than t
+    /// members have.
+    pub(crate) fn reach(&mut self, member: u8, slot: u64) -> Result<(), AllocError> {
+        self.hearing.reach(self.alloc, member, slot)
+    }
+
     /// Returns the number of decisions in each of the last 60 seconds, the present one last.
     pub(crate) fn lately(&self, time: u64) -> Result<Vec<u32>, AllocError> {
         self.recent.counts(self.alloc, time)
-    }
-
-    /// Notes the state of a member's desk.
-    pub(crate) fn set_state(&mut self, member: u8, state: MemberState) {
-        if let Some(view) = self.views.get_mut(usize::from(member)) {
-            if view.state != state {
-                view.state = state;
-                self.note(Event::Member { member, state });
-            }
-        }
     }
 
     /// Notes what a member's desk replied to `STATUS` or `LINKS`.
@@ -320,6 +239,16 @@ impl Book {
         }
     }
 
+    /// Notes the state of a member's desk.
+    pub(crate) fn set_state(&mut self, member: u8, state: MemberState) {
+        if let Some(view) = self.views.get_mut(usize::from(member)) {
+            if view.state != state {
+                view.state = state;
+                self.note(Event::Member { member, state });
+            }
+        }
+    }
+
     /// Returns the members, with what each contradicts.
     pub(crate) fn members(&self) -> Result<Vec<MemberView>, AllocError> {
         let mut views = Vec::new(self.alloc);
@@ -339,17 +268,6 @@ impl Book {
             })?;
         }
         Ok(views)
-    }
-
-    /// Returns the members whose desks answered last, a bit each.
-    pub(crate) fn reachable(&self) -> u64 {
-        let mut mask = 0;
-        for (member, view) in self.views.iter().enumerate() {
-            if view.state == MemberState::Up {
-                mask |= 1 << (member & 63);
-            }
-        }
-        mask
     }
 
     /// Returns the times from proposals here to decisions.
@@ -375,12 +293,6 @@ impl Book {
         }
     }
 
-    /// Returns `true` if the question is under way, and the member wasn't seen at its end.
-    fn is_open_for(&self, question: u64, member: u8) -> bool {
-        let spent = self.notes.at(question).spent;
-        spent >> (member & 63) & 1 == 0 && self.standing(question) == Standing::Proposed
-    }
-
     /// Returns the first question of the window from this one on that is under way, and at whose
     /// end the member wasn't seen.
     pub(crate) fn open_from(&self, question: u64, member: u8) -> Option<u64> {
@@ -391,6 +303,32 @@ impl Book {
             }
         }
         None
+    }
+
+    /// Returns the first question of the window, and the one after the last.
+    fn window(&self) -> (u64, u64) {
+        (self.watch().first(), self.watch().within(u64::MAX))
+    }
+
+    /// Returns `true` if the question is under way, and the member wasn't seen at its end.
+    fn is_open_for(&self, question: u64, member: u8) -> bool {
+        let spent = self.notes.at(question).spent;
+        spent >> (member & 63) & 1 == 0 && self.standing(question) == Standing::Proposed
+    }
+
+    /// Returns the state of a question.
+    pub(crate) fn standing(&self, question: u64) -> Standing {
+        standing_of(self.decision(question), self.stage(question))
+    }
+
+    /// Returns the decision of a question: the bit that more than t members told.
+    pub(crate) fn decision(&self, question: u64) -> Option<bool> {
+        self.hearing.watch().decision(question)
+    }
+
+    /// Returns the stage of a question.
+    pub(crate) fn stage(&self, question: u64) -> Stage {
+        self.notes.at(question).stage
     }
 
     /// Notes that a member came to the last step of the question's last round. Once n - t did, no
@@ -419,17 +357,6 @@ impl Book {
                 ..note
             });
             self.note(Event::Spent(question));
-        }
-    }
-
-    /// Notes the time at which a question was proposed here, if it wasn't before.
-    fn set_begun(&mut self, question: u64, time: u64) {
-        let note = self.notes.at(question);
-        if note.begun.is_none() {
-            self.notes.put(Note {
-                begun: Some(time),
-                ..note
-            });
         }
     }
 
@@ -464,6 +391,44 @@ impl Book {
         Ok(number)
     }
 
+    /// Notes the time at which a question was proposed here, if it wasn't before.
+    fn set_begun(&mut self, question: u64, time: u64) {
+        let note = self.notes.at(question);
+        if note.begun.is_none() {
+            self.notes.put(Note {
+                begun: Some(time),
+                ..note
+            });
+        }
+    }
+
+    /// Notes that a question of the window is under way.
+    fn begin(&mut self, question: u64) {
+        let note = self.notes.at(question);
+        if note.stage == Stage::Unproposed {
+            self.notes.put(Note {
+                stage: Stage::Proposed,
+                ..note
+            });
+            self.note(Event::Proposed(question));
+        }
+    }
+
+    /// Notes an event. If memory for it is refused, followers load everything anew.
+    fn note(&mut self, event: Event) {
+        if self.events.len() >= MOST_EVENTS || self.events.push(event).is_err() {
+            self.before = self.last().saturating_add(1);
+            self.events = Vec::new(self.alloc);
+        }
+    }
+
+    /// Returns the watch.
+    pub(crate) fn watch(&self) -> &Watch
+        ensures { (heard : List Told) × Watches result.now heard }
+    {
+        self.hearing.watch()
+    }
+
     /// Returns a proposal that the member hasn't replied to, if there is one.
     pub(crate) fn motion_for(&self, member: u8) -> Option<Motion> {
         self.motions
@@ -486,20 +451,23 @@ impl Book {
         }
     }
 
-    /// Returns a proposal that is under way.
-    pub(crate) fn motion(&self, number: u64) -> Option<Motion> {
-        self.motions
-            .iter()
-            .find(|motion| motion.number == number)
-            .copied()
-    }
-
     /// Returns `true` while a member that answers hasn't replied to the proposal.
     pub(crate) fn is_asked(&self, number: u64) -> bool {
         match self.motion(number) {
             Some(motion) => self.reachable() & !motion.replied != 0,
             None => false,
         }
+    }
+
+    /// Returns the members whose desks answered last, a bit each.
+    pub(crate) fn reachable(&self) -> u64 {
+        let mut mask = 0;
+        for (member, view) in self.views.iter().enumerate() {
+            if view.state == MemberState::Up {
+                mask |= 1 << (member & 63);
+            }
+        }
+        mask
     }
 
     /// Ends a proposal, and returns it.
@@ -515,6 +483,14 @@ impl Book {
         ended
     }
 
+    /// Returns a proposal that is under way.
+    pub(crate) fn motion(&self, number: u64) -> Option<Motion> {
+        self.motions
+            .iter()
+            .find(|motion| motion.number == number)
+            .copied()
+    }
+
     /// Returns the position of the last event in this life.
     pub(crate) fn position(&self, life: u64) -> Position {
         Position {
@@ -522,4 +498,28 @@ impl Book {
             number: self.last(),
         }
     }
+
+    /// Returns the number of the last event.
+    pub(crate) fn last(&self) -> u64 {
+        self.before.saturating_add(self.events.len() as u64)
+    }
+}
+
+/// Returns a member of which nothing is known.
+fn new_view(alloc: Global) -> MemberView {
+    MemberView {
+        state: MemberState::Silent,
+        coming: 0,
+        going: 0,
+        statements: 0,
+        decided: 0,
+        first: 0,
+        contradicts: Vec::new(alloc),
+    }
+}
+
+/// Returns the first 64 events at most.
+fn first_of(events: &[Event]) -> &[Event] {
+    let most = events.len().min(64);
+    &events[..most]
 }

@@ -28,52 +28,126 @@ pub(crate) struct Door<'a, C> {
     pub(crate) follow: Option<Option<Position>>,
 }
 
-/// Returns a field of the head; empty if it is missing.
-fn field<'a>(request: &'a Request<Bytes>, name: HeaderName) -> &'a [u8]
-    ensures { result.now ≡ field_of name request.now }
-{
-    match request.headers().get(&name) {
-        Some(value) => value.as_bytes(),
-        None => &[],
+impl<'a, C: Cluster> Door<'a, C> {
+    /// Makes a response to a request, and returns whether the stream of events is asked for.
+    fn serve(
+        &mut self,
+        request: &Request<Bytes>,
+        response: &mut Response,
+    ) -> Option<Option<Position>>
+        requires { response.old.body.items ≡ [] }
+        ensures proposes { Proposes self.old.policy self.old.scope request.now
+            (C.handed self.old.cluster) (C.handed self.new.cluster) }
+        ensures tells { Tells self.old.policy self.old.scope request.now response.new.status
+            response.new.body.items }
+    {
+        match self.answer(request) {
+            Ok(answer) => respond(self.alloc, response, answer),
+            Err(_) => {
+                starve(response);
+                None
+            }
+        }
+    }
+
+    /// Returns the answer to a request.
+    fn answer(&mut self, request: &Request<Bytes>) -> Result<Answer, AllocError>
+        ensures proposes { Proposes self.old.policy self.old.scope request.now
+            (C.handed self.old.cluster) (C.handed self.new.cluster) }
+        ensures tells { IfOk result
+            (λ answer. Tells self.old.policy self.old.scope request.now answer.status
+            answer.body.items) }
+    {
+        let asked = asked_of(request);
+        match task_of(self.alloc, &self.policy, self.scope, &asked) {
+            Ok(task) => self.perform(task),
+            Err(refusal) => self.cluster.refuse(refusal),
+        }
+    }
+
+    /// Does what a request asks for, and returns the answer.
+    fn perform(&mut self, task: Task) -> Result<Answer, AllocError>
+        ensures handed { HandsOnFor task (C.handed self.old.cluster) (C.handed self.new.cluster) }
+        ensures says { IfOk result
+            (λ answer. answer.status ≡ 200 → SaysOf self.old.scope.size task answer.body.items) }
+    {
+        match task {
+            Task::Propose {
+                question,
+                bit,
+                wait,
+            } => self.cluster.propose(Proposal {
+                question,
+                bit,
+                wait,
+            }),
+            _ => self.cluster.read(self.scope.size, task),
+        }
     }
 }
 
-/// Returns the method of a request.
-fn method_of(request: &Request<Bytes>) -> Method
-    ensures { result ≡ method_of request.now }
-{
-    match request.method().as_str() {
-        "GET" | "HEAD" => Method::Get,
-        "POST" => Method::Post,
-        _ => Method::Other,
+impl<'a, C: Cluster> Service for Door<'a, C> {
+    ghost use Rattle.portal.specs.Served.{Proposes, Tells};
+
+    // Nothing is handed on to the members but what the request may propose, and a decision of a
+    // question is what more than t members told.
+    ghost answers = { λ old request response new.
+        Proposes old.policy old.scope request (C.handed old.cluster) (C.handed new.cluster)
+        × Tells old.policy old.scope request response.status response.body.items };
+
+    fn call(
+        &mut self,
+        request: &Request<Bytes>,
+        response: &mut Response,
+    ) -> Result<(), AllocError> {
+        let follow = self.serve(request, response);
+        self.follow = later(self.follow, followed(request, follow));
+        Ok(())
     }
 }
 
-/// Returns the query of a request; empty if it has none.
-fn query_of(request: &Request<Bytes>) -> &[u8]
-    ensures { result.now ≡ option_map_or (λ query. query) (uri_query (head_of request.now).uri) [] }
+/// Makes a response of an answer, and returns whether the stream of events is asked for.
+fn respond(alloc: Global, response: &mut Response, answer: Answer) -> Option<Option<Position>>
+    requires { response.old.body.items ≡ [] }
+    ensures { response.new.status ≡ 200 → (answer.status ≡ 200)
+        × (response.new.body.items ≡ answer.body.items) }
 {
-    match request.uri().query() {
-        Some(query) => query.as_bytes(),
-        None => &[],
+    match fill(alloc, response, &answer) {
+        Ok(()) => answer.follow,
+        Err(_) => {
+            starve(response);
+            None
+        }
     }
 }
 
-/// Returns the parts of a request that say what is asked for.
-fn asked_of(request: &Request<Bytes>) -> Asked<'_>
-    ensures { IsAskedBy request.now result }
+/// Puts an answer into a response.
+fn fill(alloc: Global, response: &mut Response, answer: &Answer) -> Result<(), AllocError>
+    requires { response.old.body.items ≡ [] }
+    ensures { OnOk result
+        ((response.new.status ≡ answer.now.status)
+        × (response.new.body.items ≡ answer.now.body.items)) }
 {
-    Asked {
-        method: method_of(request),
-        path: request.uri().path().as_bytes(),
-        query: query_of(request),
-        host: field(request, header::HOST),
-        origin: field(request, header::ORIGIN),
-        authorization: field(request, header::AUTHORIZATION),
-        content: field(request, header::CONTENT_TYPE),
-        last: field(request, HeaderName::from_static("last-event-id")),
-        body: request.body().as_slice(),
+    put_fields(alloc, response, answer.kind)?;
+    response.body.put_slice(&answer.body)?;
+    match StatusCode::from_u16(answer.status) {
+        Ok(status) => {
+            response.status = status;
+            Ok(())
+        }
+        Err(_) => Err(AllocError),
     }
+}
+
+/// Puts the fields of an answer into a head.
+fn put_fields(alloc: Global, response: &mut Response, kind: Kind) -> Result<(), AllocError>
+    ensures { response.new.body ≡ response.old.body }
+{
+    response.add_header(header::CONTENT_TYPE, kind_value(kind))?;
+    put(response, header::CACHE_CONTROL, "no-store")?;
+    put(response, header::X_CONTENT_TYPE_OPTIONS, "nosniff")?;
+    put(response, header::REFERRER_POLICY, "no-referrer")?;
+    put_policy(alloc, response, kind)
 }
 
 /// Returns the kind of a body as HTTP names it.
@@ -107,35 +181,6 @@ fn put_policy(alloc: Global, response: &mut Response, kind: Kind) -> Result<(), 
     }
 }
 
-/// Puts the fields of an answer into a head.
-fn put_fields(alloc: Global, response: &mut Response, kind: Kind) -> Result<(), AllocError>
-    ensures { response.new.body ≡ response.old.body }
-{
-    response.add_header(header::CONTENT_TYPE, kind_value(kind))?;
-    put(response, header::CACHE_CONTROL, "no-store")?;
-    put(response, header::X_CONTENT_TYPE_OPTIONS, "nosniff")?;
-    put(response, header::REFERRER_POLICY, "no-referrer")?;
-    put_policy(alloc, response, kind)
-}
-
-/// Puts an answer into a response.
-fn fill(alloc: Global, response: &mut Response, answer: &Answer) -> Result<(), AllocError>
-    requires { response.old.body.items ≡ [] }
-    ensures { OnOk result
-        ((response.new.status ≡ answer.now.status)
-        × (response.new.body.items ≡ answer.now.body.items)) }
-{
-    put_fields(alloc, response, answer.kind)?;
-    response.body.put_slice(&answer.body)?;
-    match StatusCode::from_u16(answer.status) {
-        Ok(status) => {
-            response.status = status;
-            Ok(())
-        }
-        Err(_) => Err(AllocError),
-    }
-}
-
 /// Makes a response say that memory for an answer was refused. It takes no memory.
 fn starve(response: &mut Response)
     ensures { response.new.status ≡ 503 }
@@ -144,29 +189,51 @@ fn starve(response: &mut Response)
     response.status = StatusCode::SERVICE_UNAVAILABLE;
 }
 
-/// Makes a response of an answer, and returns whether the stream of events is asked for.
-fn respond(alloc: Global, response: &mut Response, answer: Answer) -> Option<Option<Position>>
-    requires { response.old.body.items ≡ [] }
-    ensures { response.new.status ≡ 200 → (answer.status ≡ 200)
-        × (response.new.body.items ≡ answer.body.items) }
+/// Returns the parts of a request that say what is asked for.
+fn asked_of(request: &Request<Bytes>) -> Asked<'_>
+    ensures { IsAskedBy request.now result }
 {
-    match fill(alloc, response, &answer) {
-        Ok(()) => answer.follow,
-        Err(_) => {
-            starve(response);
-            None
-        }
+    Asked {
+        method: method_of(request),
+        path: request.uri().path().as_bytes(),
+        query: query_of(request),
+        host: field(request, header::HOST),
+        origin: field(request, header::ORIGIN),
+        authorization: field(request, header::AUTHORIZATION),
+        content: field(request, header::CONTENT_TYPE),
+        last: field(request, HeaderName::from_static("last-event-id")),
+        body: request.body().as_slice(),
     }
 }
 
-/// Returns the request for the stream of events, unless only its head is asked for.
-fn followed(
-    request: &Request<Bytes>,
-    follow: Option<Option<Position>>,
-) -> Option<Option<Position>> {
+/// Returns the method of a request.
+fn method_of(request: &Request<Bytes>) -> Method
+    ensures { result ≡ method_of request.now }
+{
     match request.method().as_str() {
-        "HEAD" => None,
-        _ => follow,
+        "GET" | "HEAD" => Method::Get,
+        "POST" => Method::Post,
+        _ => Method::Other,
+    }
+}
+
+/// Returns the query of a request; empty if it has none.
+fn query_of(request: &Request<Bytes>) -> &[u8]
+    ensures { result.now ≡ option_map_or (λ query. query) (uri_query (head_of request.now).uri) [] }
+{
+    match request.uri().query() {
+        Some(query) => query.as_bytes(),
+        None => &[],
+    }
+}
+
+/// Returns a field of the head; empty if it is missing.
+fn field<'a>(request: &'a Request<Bytes>, name: HeaderName) -> &'a [u8]
+    ensures { result.now ≡ field_of name request.now }
+{
+    match request.headers().get(&name) {
+        Some(value) => value.as_bytes(),
+        None => &[],
     }
 }
 
@@ -181,80 +248,13 @@ fn later(
     }
 }
 
-impl<'a, C: Cluster> Door<'a, C> {
-    /// Does what a request asks for, and returns the answer.
-    fn perform(&mut self, task: Task) -> Result<Answer, AllocError>
-        ensures handed { HandsOnFor task (C.handed self.old.cluster) (C.handed self.new.cluster) }
-        ensures says { IfOk result
-            (λ answer. answer.status ≡ 200 → SaysOf self.old.scope.size task answer.body.items) }
-    {
-        match task {
-            Task::Propose {
-                question,
-                bit,
-                wait,
-            } => self.cluster.propose(Proposal {
-                question,
-                bit,
-                wait,
-            }),
-            _ => self.cluster.read(self.scope.size, task),
-        }
-    }
-
-    /// Returns the answer to a request.
-    fn answer(&mut self, request: &Request<Bytes>) -> Result<Answer, AllocError>
-        ensures proposes { Proposes self.old.policy self.old.scope request.now
-            (C.handed self.old.cluster) (C.handed self.new.cluster) }
-        ensures tells { IfOk result
-            (λ answer. Tells self.old.policy self.old.scope request.now answer.status
-            answer.body.items) }
-    {
-        let asked = asked_of(request);
-        match task_of(self.alloc, &self.policy, self.scope, &asked) {
-            Ok(task) => self.perform(task),
-            Err(refusal) => self.cluster.refuse(refusal),
-        }
-    }
-
-    /// Makes a response to a request, and returns whether the stream of events is asked for.
-    fn serve(
-        &mut self,
-        request: &Request<Bytes>,
-        response: &mut Response,
-    ) -> Option<Option<Position>>
-        requires { response.old.body.items ≡ [] }
-        ensures proposes { Proposes self.old.policy self.old.scope request.now
-            (C.handed self.old.cluster) (C.handed self.new.cluster) }
-        ensures tells { Tells self.old.policy self.old.scope request.now response.new.status
-            response.new.body.items }
-    {
-        match self.answer(request) {
-            Ok(answer) => respond(self.alloc, response, answer),
-            Err(_) => {
-                starve(response);
-                None
-            }
-        }
-    }
-}
-
-impl<'a, C: Cluster> Service for Door<'a, C> {
-    ghost use Rattle.portal.specs.Served.{Proposes, Tells};
-
-    // Nothing is handed on to the members but what the request may propose, and a decision of a
-    // question is what more than t members told.
-    ghost answers = { λ old request response new.
-        Proposes old.policy old.scope request (C.handed old.cluster) (C.handed new.cluster)
-        × Tells old.policy old.scope request response.status response.body.items };
-
-    fn call(
-        &mut self,
-        request: &Request<Bytes>,
-        response: &mut Response,
-    ) -> Result<(), AllocError> {
-        let follow = self.serve(request, response);
-        self.follow = later(self.follow, followed(request, follow));
-        Ok(())
+/// Returns the request for the stream of events, unless only its head is asked for.
+fn followed(
+    request: &Request<Bytes>,
+    follow: Option<Option<Position>>,
+) -> Option<Option<Position>> {
+    match request.method().as_str() {
+        "HEAD" => None,
+        _ => follow,
     }
 }

@@ -1,4 +1,4 @@
-//! Transcripts of members: begin at `fetch`, last.
+//! Transcripts of members: begin at `fetch`.
 
 use crate::deadline::Deadline;
 use crate::following::{PROMPT, connect};
@@ -41,11 +41,84 @@ pub(crate) enum Fetched {
     Silent,
 }
 
-/// Appends a line and its end.
-fn put_line(text: &mut Vec<u8>, line: &[u8]) -> Result<(), AllocError> {
-    text.extend_from_slice(line)?;
-    text.push(b'\n')?;
-    Ok(())
+/// Asks the members that told this decision for their transcripts of the question, one after the
+/// other, until one sends one that is proof; else the last that was sent is returned.
+pub(crate) fn fetch<R: Speaker>(
+    rt: &R,
+    it: &Shared,
+    question: u64,
+    bit: bool,
+) -> io::Result<Fetched> {
+    let all = Deadline::new(rt, IN_ALL)?;
+    let mut fetched = Fetched::Silent;
+    for member in tellers(rt, it, question, bit)? {
+        let Ok(deadline) = sooner(rt, all) else {
+            return Ok(fetched);
+        };
+        match sent_by(rt, it, member, (question, bit), deadline) {
+            Ok(Some(sent)) => {
+                if sent.proven {
+                    return Ok(Fetched::Sent(sent));
+                }
+                fetched = Fetched::Sent(sent);
+            }
+            Ok(None) => fetched = answered(fetched),
+            Err(_) => {}
+        }
+    }
+    Ok(fetched)
+}
+
+/// Returns the members to ask: those that told this bit of the question, each time from another one
+/// on.
+fn tellers<R: Speaker>(
+    rt: &R,
+    it: &Shared,
+    question: u64,
+    bit: bool,
+) -> Result<Vec<u8>, AllocError> {
+    let mut members = Vec::new(it.alloc);
+    let n = u64::from(it.scope.size.n()).max(1);
+    let first = it.turns.fetch_add(1, Ordering::SeqCst) % n;
+    let book = it.book.lock(rt);
+    for place in 0..n {
+        let member = ((first + place) % n) as u8;
+        if book.word_of(question, member) == Some(bit) {
+            members.push(member)?;
+        }
+    }
+    Ok(members)
+}
+
+/// Returns the end of the time of one member, which isn't after that of all.
+fn sooner<R: Speaker>(rt: &R, all: Deadline) -> io::Result<Deadline> {
+    all.within(rt, TO_SEND)
+}
+
+/// Returns the member's transcript of the question and the bit, and what an audit says of it.
+/// `None` if it sends another.
+fn sent_by<R: Speaker>(
+    rt: &R,
+    it: &Shared,
+    member: u8,
+    (question, bit): (u64, bool),
+    deadline: Deadline,
+) -> io::Result<Option<Sent>> {
+    let Some(text) = transcript_from(rt, it, member, question, deadline)? else {
+        return Ok(None);
+    };
+    let named = question_in(it.scope.size, question);
+    if !is_of(it.alloc, &text, named, bit)? {
+        return Ok(None);
+    }
+    match audited(it.alloc, it.scope.size, &text) {
+        Some(proven) => Ok(Some(Sent {
+            member,
+            text,
+            proven,
+        })),
+        None => Ok(None),
+    }
 }
 
 /// Returns the transcript that a member sends within the time. `None` if it replies something else.
@@ -75,17 +148,24 @@ fn transcript_from<R: Speaker>(
     Ok(Some(text))
 }
 
-/// Returns `true` if the text begins as a transcript of the question and the bit.
-fn is_of(alloc: Global, text: &[u8], question: u64, bit: bool) -> Result<bool, AllocError> {
-    let bit = u8::from(bit);
-    let head = format!(in alloc; "transcript {question} bit {bit} count ")?;
-    Ok(text.starts_with(head.as_bytes()))
+/// Appends a line and its end.
+fn put_line(text: &mut Vec<u8>, line: &[u8]) -> Result<(), AllocError> {
+    text.extend_from_slice(line)?;
+    text.push(b'\n')?;
+    Ok(())
 }
 
 /// Returns the question that a transcript names: that of its epoch in a chain.
 fn question_in(size: Size, question: u64) -> u64 {
     size.recall();
     question % u64::from(size.questions())
+}
+
+/// Returns `true` if the text begins as a transcript of the question and the bit.
+fn is_of(alloc: Global, text: &[u8], question: u64, bit: bool) -> Result<bool, AllocError> {
+    let bit = u8::from(bit);
+    let head = format!(in alloc; "transcript {question} bit {bit} count ")?;
+    Ok(text.starts_with(head.as_bytes()))
 }
 
 /// Returns what an audit says of the text: `None` if it isn't a transcript.
@@ -95,86 +175,6 @@ fn audited(alloc: Global, size: Size, text: &[u8]) -> Option<bool> {
         Ok(status) => Some(status == 0),
         Err(_) => None,
     }
-}
-
-/// Returns the member's transcript of the question and the bit, and what an audit says of it.
-/// `None` if it sends another.
-fn sent_by<R: Speaker>(
-    rt: &R,
-    it: &Shared,
-    member: u8,
-    (question, bit): (u64, bool),
-    deadline: Deadline,
-) -> io::Result<Option<Sent>> {
-    let Some(text) = transcript_from(rt, it, member, question, deadline)? else {
-        return Ok(None);
-    };
-    let named = question_in(it.scope.size, question);
-    if !is_of(it.alloc, &text, named, bit)? {
-        return Ok(None);
-    }
-    match audited(it.alloc, it.scope.size, &text) {
-        Some(proven) => Ok(Some(Sent {
-            member,
-            text,
-            proven,
-        })),
-        None => Ok(None),
-    }
-}
-
-/// Returns the members to ask: those that told this bit of the question, each time from another one
-/// on.
-fn tellers<R: Speaker>(
-    rt: &R,
-    it: &Shared,
-    question: u64,
-    bit: bool,
-) -> Result<Vec<u8>, AllocError> {
-    let mut members = Vec::new(it.alloc);
-    let n = u64::from(it.scope.size.n()).max(1);
-    let first = it.turns.fetch_add(1, Ordering::SeqCst) % n;
-    let book = it.book.lock(rt);
-    for place in 0..n {
-        let member = ((first + place) % n) as u8;
-        if book.word_of(question, member) == Some(bit) {
-            members.push(member)?;
-        }
-    }
-    Ok(members)
-}
-
-/// Returns the end of the time of one member, which isn't after that of all.
-fn sooner<R: Speaker>(rt: &R, all: Deadline) -> io::Result<Deadline> {
-    all.within(rt, TO_SEND)
-}
-
-/// Asks the members that told this decision for their transcripts of the question, one after the
-/// other, until one sends one that is proof; else the last that was sent is returned.
-pub(crate) fn fetch<R: Speaker>(
-    rt: &R,
-    it: &Shared,
-    question: u64,
-    bit: bool,
-) -> io::Result<Fetched> {
-    let all = Deadline::new(rt, IN_ALL)?;
-    let mut fetched = Fetched::Silent;
-    for member in tellers(rt, it, question, bit)? {
-        let Ok(deadline) = sooner(rt, all) else {
-            return Ok(fetched);
-        };
-        match sent_by(rt, it, member, (question, bit), deadline) {
-            Ok(Some(sent)) => {
-                if sent.proven {
-                    return Ok(Fetched::Sent(sent));
-                }
-                fetched = Fetched::Sent(sent);
-            }
-            Ok(None) => fetched = answered(fetched),
-            Err(_) => {}
-        }
-    }
-    Ok(fetched)
 }
 
 /// Returns what is known after a member answered with no transcript.

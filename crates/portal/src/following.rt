@@ -1,4 +1,4 @@
-//! The thread that follows a member's decisions: begin at `follow_on`, last.
+//! The thread that follows a member's decisions: begin at `follow_on`.
 
 use crate::deadline::Deadline;
 use crate::lines::DeskLines;
@@ -27,30 +27,41 @@ pub(crate) const FIRST_REST: u64 = 250;
 /// The greatest number from which a desk of one cluster lets one follow.
 const LAST_NUMBER: u64 = 99_999;
 
-/// Returns the lines of a new connection to a member's desk.
-pub(crate) fn connect<R: Speaker>(rt: &R, it: &Shared, member: u8) -> io::Result<DeskLines> {
-    let Some(desk) = it.desks.get(usize::from(member)) else {
-        return Err(io::Error::from(io::ErrorKind::NotFound));
-    };
-    let limit = Duration::from_millis(PROMPT);
-    let socket = TcpStream::connect_timeout(rt, desk, limit)?;
-    Ok(DeskLines::new(it.alloc, socket))
-}
-
-/// Returns twice the rest, but no longer one than is had.
-pub(crate) fn longer_rest(rest: u64) -> u64 {
-    rest.saturating_mul(2).min(LONGEST_REST)
-}
-
-/// Returns the reply to the line `EPOCHS`: the first epoch that isn't closed at the member; 0 if it
-/// says none.
-fn closed_epochs<R: Runner>(rt: &R, it: &Shared, lines: &mut DeskLines) -> io::Result<u64> {
-    lines.send(rt, "EPOCHS\n", Deadline::new(rt, PROMPT)?)?;
-    let line = lines.next(rt, it.alloc, Deadline::new(rt, PROMPT)?)?;
-    match reply_of(&line) {
-        Reply::Epochs { closed, .. } => Ok(closed),
-        _ => Ok(0),
+/// Follows a member, over one connection after the other, until the gateway ends.
+pub(crate) fn follow_on<R: Runner>(rt: R, it: Arc<Shared>, member: u8) {
+    let it: &Shared = &it;
+    let mut number = None;
+    let mut rest = FIRST_REST;
+    for _ in 0..u64::MAX {
+        let before = number;
+        let _ended = follow_once(&rt, it, member, &mut number).is_err();
+        if it.is_over() {
+            return;
+        }
+        rest = if number != before {
+            FIRST_REST
+        } else {
+            longer_rest(rest)
+        };
+        thread::sleep(&rt, Duration::from_millis(rest));
     }
+}
+
+/// Follows a member over one connection, from this number on if there is one.
+fn follow_once<R: Runner>(
+    rt: &R,
+    it: &Shared,
+    member: u8,
+    number: &mut Option<u64>,
+) -> io::Result<()> {
+    let mut lines = connect(rt, it, member)?;
+    let mut from = match *number {
+        Some(from) => from,
+        None => first_number(rt, it, &mut lines, member)?,
+    };
+    let ended = follow_from(rt, it, &mut lines, member, &mut from);
+    *number = Some(from);
+    ended
 }
 
 /// Returns the number from which a member is followed first: that of the first decision; in a chain
@@ -71,23 +82,15 @@ fn first_number<R: Runner>(
     Ok(book.watch().follow_from(slot))
 }
 
-/// Returns the number from which a member is followed, once it told a decision of this question.
-fn number_after(it: &Shared, number: u64, question: u64) -> u64 {
-    let next = it.scope.next_number(number, question);
-    if it.scope.chain {
-        next
-    } else {
-        next.min(LAST_NUMBER)
+/// Returns the reply to the line `EPOCHS`: the first epoch that isn't closed at the member; 0 if it
+/// says none.
+fn closed_epochs<R: Runner>(rt: &R, it: &Shared, lines: &mut DeskLines) -> io::Result<u64> {
+    lines.send(rt, "EPOCHS\n", Deadline::new(rt, PROMPT)?)?;
+    let line = lines.next(rt, it.alloc, Deadline::new(rt, PROMPT)?)?;
+    match reply_of(&line) {
+        Reply::Epochs { closed, .. } => Ok(closed),
+        _ => Ok(0),
     }
-}
-
-/// Takes a decision that a member told. Returns `false` if it comes after the window: it is to be
-/// told again.
-fn hear<R: Runner>(rt: &R, it: &Shared, told: Told) -> bool {
-    let time = time_now(rt);
-    let heard = it.book.lock(rt).hear(told, time);
-    it.changed.notify_all();
-    heard
 }
 
 /// Takes the decisions that a member tells from this number on, until the connection ends, and
@@ -122,39 +125,36 @@ fn follow_from<R: Runner>(
     Ok(())
 }
 
-/// Follows a member over one connection, from this number on if there is one.
-fn follow_once<R: Runner>(
-    rt: &R,
-    it: &Shared,
-    member: u8,
-    number: &mut Option<u64>,
-) -> io::Result<()> {
-    let mut lines = connect(rt, it, member)?;
-    let mut from = match *number {
-        Some(from) => from,
-        None => first_number(rt, it, &mut lines, member)?,
-    };
-    let ended = follow_from(rt, it, &mut lines, member, &mut from);
-    *number = Some(from);
-    ended
+/// Takes a decision that a member told. Returns `false` if it comes after the window: it is to be
+/// told again.
+fn hear<R: Runner>(rt: &R, it: &Shared, told: Told) -> bool {
+    let time = time_now(rt);
+    let heard = it.book.lock(rt).hear(told, time);
+    it.changed.notify_all();
+    heard
 }
 
-/// Follows a member, over one connection after the other, until the gateway ends.
-pub(crate) fn follow_on<R: Runner>(rt: R, it: Arc<Shared>, member: u8) {
-    let it: &Shared = &it;
-    let mut number = None;
-    let mut rest = FIRST_REST;
-    for _ in 0..u64::MAX {
-        let before = number;
-        let _ended = follow_once(&rt, it, member, &mut number).is_err();
-        if it.is_over() {
-            return;
-        }
-        rest = if number != before {
-            FIRST_REST
-        } else {
-            longer_rest(rest)
-        };
-        thread::sleep(&rt, Duration::from_millis(rest));
+/// Returns the number from which a member is followed, once it told a decision of this question.
+fn number_after(it: &Shared, number: u64, question: u64) -> u64 {
+    let next = it.scope.next_number(number, question);
+    if it.scope.chain {
+        next
+    } else {
+        next.min(LAST_NUMBER)
     }
+}
+
+/// Returns the lines of a new connection to a member's desk.
+pub(crate) fn connect<R: Speaker>(rt: &R, it: &Shared, member: u8) -> io::Result<DeskLines> {
+    let Some(desk) = it.desks.get(usize::from(member)) else {
+        return Err(io::Error::from(io::ErrorKind::NotFound));
+    };
+    let limit = Duration::from_millis(PROMPT);
+    let socket = TcpStream::connect_timeout(rt, desk, limit)?;
+    Ok(DeskLines::new(it.alloc, socket))
+}
+
+/// Returns twice the rest, but no longer one than is had.
+pub(crate) fn longer_rest(rest: u64) -> u64 {
+    rest.saturating_mul(2).min(LONGEST_REST)
 }

@@ -22,14 +22,6 @@ pub(crate) fn read_from(socket: &TcpStream, piece: &mut [u8]) -> io::Result<usiz
     socket.read(piece)
 }
 
-/// Writes what is taken.
-pub(crate) fn write_to(socket: &TcpStream, piece: &[u8]) -> io::Result<usize>
-    ensures bound { WritesAtMost result piece.now }
-{
-    let mut socket = socket;
-    socket.write(piece)
-}
-
 /// Writes all bytes within the time.
 pub(crate) fn write_all<R: Clock>(
     rt: &R,
@@ -52,16 +44,19 @@ pub(crate) fn write_all<R: Clock>(
     Ok(())
 }
 
+/// Writes what is taken.
+pub(crate) fn write_to(socket: &TcpStream, piece: &[u8]) -> io::Result<usize>
+    ensures bound { WritesAtMost result piece.now }
+{
+    let mut socket = socket;
+    socket.write(piece)
+}
+
 /// A connection to a desk, and what of it was read and isn't yet taken.
 #[derive(Drop)]
 pub(crate) struct DeskLines {
     socket: TcpStream,
     buffer: Vec<u8>,
-}
-
-/// Returns the index of the first line's end.
-fn end_of_line(bytes: &[u8]) -> Option<usize> {
-    bytes.iter().position(|byte| *byte == b'\n')
 }
 
 impl DeskLines {
@@ -77,24 +72,6 @@ impl DeskLines {
     /// Sends a line.
     pub(crate) fn send<R: Clock>(&self, rt: &R, line: &str, deadline: Deadline) -> io::Result<()> {
         write_all(rt, &self.socket, line.as_bytes(), deadline)
-    }
-
-    /// Takes the first line that was read, if there is a whole one.
-    fn take(&mut self, alloc: Global) -> io::Result<Option<Vec<u8>>> {
-        let Some(end) = end_of_line(&self.buffer) else {
-            return Ok(None);
-        };
-        let mut line = Vec::new(alloc);
-        let mut rest = Vec::new(alloc);
-        for (index, byte) in self.buffer.iter().enumerate() {
-            if index < end {
-                line.push(*byte)?;
-            } else if index > end {
-                rest.push(*byte)?;
-            }
-        }
-        self.buffer = rest;
-        Ok(Some(line))
     }
 
     /// Reads a line, without its end, within the time. A line of more than 64 bytes is an error.
@@ -121,4 +98,27 @@ impl DeskLines {
         }
         Err(io::Error::from(io::ErrorKind::TimedOut))
     }
+
+    /// Takes the first line that was read, if there is a whole one.
+    fn take(&mut self, alloc: Global) -> io::Result<Option<Vec<u8>>> {
+        let Some(end) = end_of_line(&self.buffer) else {
+            return Ok(None);
+        };
+        let mut line = Vec::new(alloc);
+        let mut rest = Vec::new(alloc);
+        for (index, byte) in self.buffer.iter().enumerate() {
+            if index < end {
+                line.push(*byte)?;
+            } else if index > end {
+                rest.push(*byte)?;
+            }
+        }
+        self.buffer = rest;
+        Ok(Some(line))
+    }
+}
+
+/// Returns the index of the first line's end.
+fn end_of_line(bytes: &[u8]) -> Option<usize> {
+    bytes.iter().position(|byte| *byte == b'\n')
 }

@@ -14,16 +14,6 @@ pub(crate) struct Note {
     pub(crate) spent: u64,
 }
 
-/// Returns the note on a question of which nothing is known.
-fn new_note(question: u64) -> Note {
-    Note {
-        question,
-        stage: Stage::Unproposed,
-        begun: None,
-        spent: 0,
-    }
-}
-
 /// The notes on a window of questions: a ring, in which a question takes the place of the one that
 /// is a window before it.
 #[derive(Drop)]
@@ -37,12 +27,6 @@ impl Notes {
         let mut ring = Vec::new(alloc);
         ring.resize(count, new_note(0))?;
         Ok(Notes { ring })
-    }
-
-    /// Returns the place of a question in the ring.
-    fn place_of(&self, question: u64) -> usize {
-        let count = (self.ring.len() as u64).max(1);
-        (question % count) as usize
     }
 
     /// Returns the note on a question.
@@ -59,5 +43,21 @@ impl Notes {
         if let Some(kept) = self.ring.get_mut(place) {
             *kept = note;
         }
+    }
+
+    /// Returns the place of a question in the ring.
+    fn place_of(&self, question: u64) -> usize {
+        let count = (self.ring.len() as u64).max(1);
+        (question % count) as usize
+    }
+}
+
+/// Returns the note on a question of which nothing is known.
+fn new_note(question: u64) -> Note {
+    Note {
+        question,
+        stage: Stage::Unproposed,
+        begun: None,
+        spent: 0,
     }
 }

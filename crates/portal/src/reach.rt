@@ -40,26 +40,6 @@ pub(crate) struct Reach<'a, R: 'static> {
 }
 
 impl<'a, R: Speaker> Reach<'a, R> {
-    /// Waits until the question is decided, for so many seconds.
-    fn await_decision(&self, question: u64, seconds: u16) {
-        if seconds == 0 {
-            return;
-        }
-        let limit = Duration::from_secs(u64::from(seconds));
-        let book = self.it.book.lock(self.rt);
-        let (_book, _late) = self
-            .it
-            .changed
-            .wait_timeout_while(self.rt, book, limit, |book| {
-                book.awaits(question) && !self.it.is_over()
-            });
-    }
-
-    /// Returns the reason why nothing is told of a question now.
-    fn refusal(&self, question: u64) -> Option<Refusal> {
-        self.it.book.lock(self.rt).watch().refusal(question)
-    }
-
     /// Returns the answer about a question.
     fn question(&self, size: Size, question: u64, wait: u16) -> Result<Answer, AllocError>
         ensures { IfOk result
@@ -85,27 +65,21 @@ impl<'a, R: Speaker> Reach<'a, R> {
         questions_answer(self.it.alloc, &book, &moment, time_now(self.rt))
     }
 
-    /// Returns the answer to a transcript that a member sent.
-    fn sent(&self, question: u64, bit: bool, sent: &Sent) -> Result<Answer, AllocError> {
-        let told = Transcript {
-            question,
-            bit,
-            member: sent.member,
-            proven: sent.proven,
-            text: &sent.text,
-        };
-        let body = transcript_text(self.it.alloc, &told)?;
-        Ok(good_answer(Kind::Json, body))
+    /// Returns a transcript of the question.
+    fn transcript(&self, question: u64) -> Result<Answer, AllocError> {
+        if let Some(refusal) = self.refusal(question) {
+            return self.refuse(refusal);
+        }
+        let decision = self.it.book.lock(self.rt).decision(question);
+        match decision {
+            Some(bit) => self.turned(question, bit),
+            None => self.without_decision(),
+        }
     }
 
-    /// Returns a transcript of the question's decision.
-    fn fetched(&self, question: u64, bit: bool) -> Result<Answer, AllocError> {
-        match fetch(self.rt, self.it, question, bit) {
-            Ok(Fetched::Sent(sent)) => self.sent(question, bit, &sent),
-            Ok(Fetched::Thin) => self.refuse(Refusal::Thin),
-            Ok(Fetched::Silent) => self.refuse(Refusal::Silent),
-            Err(_) => Err(AllocError),
-        }
+    /// Returns the reason why nothing is told of a question now.
+    fn refusal(&self, question: u64) -> Option<Refusal> {
+        self.it.book.lock(self.rt).watch().refusal(question)
     }
 
     /// Returns a transcript of the question's decision, unless too many are being fetched.
@@ -119,16 +93,27 @@ impl<'a, R: Speaker> Reach<'a, R> {
         answer
     }
 
-    /// Returns a transcript of the question.
-    fn transcript(&self, question: u64) -> Result<Answer, AllocError> {
-        if let Some(refusal) = self.refusal(question) {
-            return self.refuse(refusal);
+    /// Returns a transcript of the question's decision.
+    fn fetched(&self, question: u64, bit: bool) -> Result<Answer, AllocError> {
+        match fetch(self.rt, self.it, question, bit) {
+            Ok(Fetched::Sent(sent)) => self.sent(question, bit, &sent),
+            Ok(Fetched::Thin) => self.refuse(Refusal::Thin),
+            Ok(Fetched::Silent) => self.refuse(Refusal::Silent),
+            Err(_) => Err(AllocError),
         }
-        let decision = self.it.book.lock(self.rt).decision(question);
-        match decision {
-            Some(bit) => self.turned(question, bit),
-            None => self.without_decision(),
-        }
+    }
+
+    /// Returns the answer to a transcript that a member sent.
+    fn sent(&self, question: u64, bit: bool, sent: &Sent) -> Result<Answer, AllocError> {
+        let told = Transcript {
+            question,
+            bit,
+            member: sent.member,
+            proven: sent.proven,
+            text: &sent.text,
+        };
+        let body = transcript_text(self.it.alloc, &told)?;
+        Ok(good_answer(Kind::Json, body))
     }
 
     /// Returns the refusal of a transcript of a question that isn't decided.
@@ -139,16 +124,6 @@ impl<'a, R: Speaker> Reach<'a, R> {
         } else {
             self.refuse(Refusal::Undecided)
         }
-    }
-
-    /// Waits until each member that answers has replied to a proposal.
-    fn await_replies(&self, number: u64) {
-        let limit = Duration::from_millis(REPLIES);
-        let book = self.it.book.lock(self.rt);
-        let (_book, _late) = self
-            .it
-            .changed
-            .wait_timeout_while(self.rt, book, limit, |book| { book.is_asked(number) });
     }
 
     /// Returns the answer to a proposal of this number once members replied to it.
@@ -171,6 +146,31 @@ impl<'a, R: Speaker> Reach<'a, R> {
             _ => 202,
         };
         answer_of(self.it.alloc, status, Kind::Json, text.as_bytes())
+    }
+
+    /// Waits until each member that answers has replied to a proposal.
+    fn await_replies(&self, number: u64) {
+        let limit = Duration::from_millis(REPLIES);
+        let book = self.it.book.lock(self.rt);
+        let (_book, _late) = self
+            .it
+            .changed
+            .wait_timeout_while(self.rt, book, limit, |book| { book.is_asked(number) });
+    }
+
+    /// Waits until the question is decided, for so many seconds.
+    fn await_decision(&self, question: u64, seconds: u16) {
+        if seconds == 0 {
+            return;
+        }
+        let limit = Duration::from_secs(u64::from(seconds));
+        let book = self.it.book.lock(self.rt);
+        let (_book, _late) = self
+            .it
+            .changed
+            .wait_timeout_while(self.rt, book, limit, |book| {
+                book.awaits(question) && !self.it.is_over()
+            });
     }
 }
 

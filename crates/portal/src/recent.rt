@@ -13,33 +13,12 @@ pub(crate) struct Recent {
     last: u64,
 }
 
-/// Returns the place of a second in the ring.
-fn place_of(second: u64) -> usize {
-    (second % SECONDS) as usize
-}
-
 impl Recent {
     /// Returns the counts before any decision.
     pub(crate) fn new(alloc: Global) -> Result<Recent, AllocError> {
         let mut counts = Vec::new(alloc);
         counts.resize(SECONDS as usize, 0)?;
         Ok(Recent { counts, last: 0 })
-    }
-
-    /// Returns `true` if the second is one of those that are counted.
-    fn has(&self, second: u64) -> bool {
-        second <= self.last && self.last - second < SECONDS
-    }
-
-    /// Makes a second the last one. Those since the one before had no decision.
-    fn advance(&mut self, second: u64) {
-        let passed = second.saturating_sub(self.last).min(SECONDS);
-        for ago in 0..passed {
-            if let Some(count) = self.counts.get_mut(place_of(second.saturating_sub(ago))) {
-                *count = 0;
-            }
-        }
-        self.last = self.last.max(second);
     }
 
     /// Counts a decision at this time, in milliseconds.
@@ -54,15 +33,15 @@ impl Recent {
         }
     }
 
-    /// Returns the number of decisions in a second.
-    fn count_in(&self, second: u64) -> u32 {
-        if !self.has(second) {
-            return 0;
+    /// Makes a second the last one. Those since the one before had no decision.
+    fn advance(&mut self, second: u64) {
+        let passed = second.saturating_sub(self.last).min(SECONDS);
+        for ago in 0..passed {
+            if let Some(count) = self.counts.get_mut(place_of(second.saturating_sub(ago))) {
+                *count = 0;
+            }
         }
-        match self.counts.get(place_of(second)) {
-            Some(count) => *count,
-            None => 0,
-        }
+        self.last = self.last.max(second);
     }
 
     /// Returns the number of decisions in each of the last 60 seconds, that of this time last.
@@ -75,4 +54,25 @@ impl Recent {
         }
         Ok(counts)
     }
+
+    /// Returns the number of decisions in a second.
+    fn count_in(&self, second: u64) -> u32 {
+        if !self.has(second) {
+            return 0;
+        }
+        match self.counts.get(place_of(second)) {
+            Some(count) => *count,
+            None => 0,
+        }
+    }
+
+    /// Returns `true` if the second is one of those that are counted.
+    fn has(&self, second: u64) -> bool {
+        second <= self.last && self.last - second < SECONDS
+    }
+}
+
+/// Returns the place of a second in the ring.
+fn place_of(second: u64) -> usize {
+    (second % SECONDS) as usize
 }

@@ -1,4 +1,4 @@
-//! The connections of a gateway's clients, and its start: begin at `open`, last.
+//! The connections of a gateway's clients, and its start: begin at `open`.
 
 ghost use Rattle.std.specs.Io.{ReadsAtMost, WritesAtMost};
 
@@ -66,204 +66,6 @@ impl<
         + 'static,
 > Runner for R {}
 
-/// A connection of a client, with the time in which its next request has to come.
-#[derive(Drop)]
-struct Timed<'a, R: 'static> {
-    rt: &'a R,
-    socket: &'a TcpStream,
-    deadline: Deadline,
-    /// Set while answers are written.
-    writes: bool,
-}
-
-impl<'a, R: Clock + 'static> Read for Timed<'a, R> {
-    fn read(&mut self, piece: &mut [u8]) -> io::Result<usize> {
-        let limit = self.deadline.left(self.rt)?;
-        self.socket.set_read_timeout(Some(limit))?;
-        read_from(self.socket, piece)
-    }
-}
-
-impl<'a, R: Clock + 'static> Write for Timed<'a, R> {
-    fn write(&mut self, piece: &[u8]) -> io::Result<usize> {
-        let limit = self.deadline.left(self.rt)?;
-        self.socket.set_write_timeout(Some(limit))?;
-        write_to(self.socket, piece)
-    }
-
-    fn flush(&mut self) -> io::Result<()> {
-        Ok(())
-    }
-}
-
-/// Returns the limits of a connection.
-fn config() -> Config {
-    let mut config = Config::default();
-    config.max_body_len = LONGEST_BODY;
-    config.read_size = 2048;
-    config
-}
-
-impl<'a, R: Clock + 'static> Timed<'a, R> {
-    /// Begins the time anew, in which a request has to come or answers have to be taken, unless it
-    /// runs.
-    fn turn(&mut self, writes: bool) -> io::Result<()> {
-        if self.writes == writes {
-            return Ok(());
-        }
-        let limit = if writes { TO_TAKE } else { TO_COME };
-        self.deadline = Deadline::new(self.rt, limit)?;
-        self.writes = writes;
-        Ok(())
-    }
-}
-
-/// Writes some of what is pending.
-fn write_some<R: Clock + 'static>(
-    connection: &mut Connection,
-    timed: &mut Timed<'_, R>,
-) -> io::Result<()> {
-    timed.turn(true)?;
-    let written = connection.write_to(timed)?;
-    if written == 0 {
-        return Err(io::Error::from(io::ErrorKind::WriteZero));
-    }
-    Ok(())
-}
-
-/// Reads some of the next request.
-fn read_some<R: Clock + 'static>(
-    connection: &mut Connection,
-    timed: &mut Timed<'_, R>,
-) -> io::Result<()> {
-    timed.turn(false)?;
-    let _read = connection.read_from(timed)?;
-    Ok(())
-}
-
-/// Writes or reads, as the connection wants.
-fn move_some<R: Clock + 'static>(
-    connection: &mut Connection,
-    timed: &mut Timed<'_, R>,
-) -> io::Result<()> {
-    if connection.wants_write() {
-        write_some(connection, timed)
-    } else {
-        read_some(connection, timed)
-    }
-}
-
-/// Answers what was read. Returns `true` once the connection is done.
-fn answer_some<R: Runner>(connection: &mut Connection, door: &mut Door<'_, Reach<'_, R>>) -> bool {
-    connection.advance(door);
-    door.follow.is_some() || door.cluster.it.is_over() || connection.is_done()
-}
-
-/// Serves requests over a connection, until it is done.
-fn talk<R: Runner>(
-    connection: &mut Connection,
-    door: &mut Door<'_, Reach<'_, R>>,
-    timed: &mut Timed<'_, R>,
-) -> io::Result<()> {
-    for _ in 0..u64::MAX {
-        if answer_some(connection, door) {
-            return Ok(());
-        }
-        move_some(connection, timed)?;
-    }
-    Ok(())
-}
-
-/// Serves requests over a connection, until it is done. Returns the position of a follower, once
-/// one asks for the stream.
-fn converse<R: Runner>(
-    rt: &R,
-    it: &Shared,
-    socket: &TcpStream,
-) -> io::Result<Option<Option<Position>>> {
-    let deadline = Deadline::new(rt, TO_COME)?;
-    let mut connection = Connection::new(it.alloc, it.keys, config());
-    let mut door = Door {
-        alloc: it.alloc,
-        policy: it.policy(),
-        scope: it.scope,
-        cluster: Reach {
-            rt,
-            it,
-            handed: GhostRecord::new(),
-        },
-        follow: None,
-    };
-    let mut timed = Timed {
-        rt,
-        socket,
-        deadline,
-        writes: false,
-    };
-    talk(&mut connection, &mut door, &mut timed)?;
-    Ok(door.follow)
-}
-
-/// Serves a client until it goes.
-fn serve_client<R: Runner>(rt: &R, it: &Shared, socket: &TcpStream) -> io::Result<()> {
-    socket.set_nodelay(true)?;
-    match converse(rt, it, socket) {
-        Ok(Some(from)) => serve_follower(rt, it, socket, from),
-        Ok(None) => Ok(()),
-        Err(error) => {
-            if error.kind() == io::ErrorKind::TimedOut
-                || error.kind() == io::ErrorKind::WouldBlock
-            {
-                return write_all(rt, socket, LATE, Deadline::new(rt, 1000)?);
-            }
-            Err(error)
-        }
-    }
-}
-
-/// One client's thread.
-fn client_thread<R: Runner>(rt: R, it: Arc<Shared>, socket: TcpStream) {
-    let it: &Shared = &it;
-    let _ended = serve_client(&rt, it, &socket).is_err();
-    it.clients.fetch_sub(1, Ordering::SeqCst);
-}
-
-/// Tells a client that there are too many.
-fn turn_away<R: Runner>(rt: &R, socket: &TcpStream) -> io::Result<()> {
-    write_all(rt, socket, FULL, Deadline::new(rt, 1000)?)
-}
-
-/// Lets a client in, in a thread of its own, if there aren't too many.
-fn admit<R: Runner>(rt: &R, it: &Arc<Shared>, socket: TcpStream) {
-    if it.clients.fetch_add(1, Ordering::SeqCst) >= MOST_CLIENTS {
-        it.clients.fetch_sub(1, Ordering::SeqCst);
-        let _untold = turn_away(rt, &socket).is_err();
-        return;
-    }
-    let theirs: Result<Arc<Shared>, AllocError> = it.clone();
-    let Ok(theirs) = theirs else {
-        it.clients.fetch_sub(1, Ordering::SeqCst);
-        return;
-    };
-    let own = *rt;
-    if thread::spawn(rt, move || client_thread(own, theirs, socket)).is_err() {
-        it.clients.fetch_sub(1, Ordering::SeqCst);
-    }
-}
-
-/// Takes clients in, until the gateway ends.
-fn accept_on<R: Runner>(rt: R, it: Arc<Shared>, listener: TcpListener) {
-    for _ in 0..u64::MAX {
-        match listener.accept() {
-            Ok((socket, _from)) => admit(&rt, &it, socket),
-            Err(_) => thread::sleep(&rt, Duration::from_millis(50)),
-        }
-        if it.is_over() {
-            return;
-        }
-    }
-}
-
 /// The settings of a gateway.
 #[derive(Drop)]
 pub struct Opening {
@@ -308,6 +110,33 @@ impl Portal {
         self.it.over.store(true, Ordering::SeqCst);
         self.it.changed.notify_all();
     }
+}
+
+/// Starts a gateway: it listens, follows every member, and serves its clients in threads of their
+/// own.
+///
+/// # Errors
+///
+/// - [`OpeningFault::Listen`] if the address can't be listened at;
+/// - [`OpeningFault::Memory`] if an allocation failed;
+/// - [`OpeningFault::Thread`] if the system starts no thread.
+pub fn open<R: Runner>(rt: &R, alloc: Global, opening: Opening) -> Result<Portal, OpeningFault> {
+    let listener = match TcpListener::bind(rt, opening.listen) {
+        Ok(listener) => listener,
+        Err(error) => return Err(OpeningFault::Listen(error)),
+    };
+    let n = opening.size.n();
+    let Ok(shared) = new_shared(alloc, opening) else {
+        return Err(OpeningFault::Memory);
+    };
+    let Ok(it) = Arc::new(alloc, shared) else {
+        return Err(OpeningFault::Memory);
+    };
+    for member in 0..n {
+        start_member(rt, &it, member)?;
+    }
+    start_accepting(rt, &it, listener)?;
+    Ok(Portal { it })
 }
 
 /// Returns what the threads share.
@@ -378,29 +207,200 @@ fn start_accepting<R: Runner>(
     Ok(())
 }
 
-/// Starts a gateway: it listens, follows every member, and serves its clients in threads of their
-/// own.
-///
-/// # Errors
-///
-/// - [`OpeningFault::Listen`] if the address can't be listened at;
-/// - [`OpeningFault::Memory`] if an allocation failed;
-/// - [`OpeningFault::Thread`] if the system starts no thread.
-pub fn open<R: Runner>(rt: &R, alloc: Global, opening: Opening) -> Result<Portal, OpeningFault> {
-    let listener = match TcpListener::bind(rt, opening.listen) {
-        Ok(listener) => listener,
-        Err(error) => return Err(OpeningFault::Listen(error)),
-    };
-    let n = opening.size.n();
-    let Ok(shared) = new_shared(alloc, opening) else {
-        return Err(OpeningFault::Memory);
-    };
-    let Ok(it) = Arc::new(alloc, shared) else {
-        return Err(OpeningFault::Memory);
-    };
-    for member in 0..n {
-        start_member(rt, &it, member)?;
+/// Takes clients in, until the gateway ends.
+fn accept_on<R: Runner>(rt: R, it: Arc<Shared>, listener: TcpListener) {
+    for _ in 0..u64::MAX {
+        match listener.accept() {
+            Ok((socket, _from)) => admit(&rt, &it, socket),
+            Err(_) => thread::sleep(&rt, Duration::from_millis(50)),
+        }
+        if it.is_over() {
+            return;
+        }
     }
-    start_accepting(rt, &it, listener)?;
-    Ok(Portal { it })
+}
+
+/// Lets a client in, in a thread of its own, if there aren't too many.
+fn admit<R: Runner>(rt: &R, it: &Arc<Shared>, socket: TcpStream) {
+    if it.clients.fetch_add(1, Ordering::SeqCst) >= MOST_CLIENTS {
+        it.clients.fetch_sub(1, Ordering::SeqCst);
+        let _untold = turn_away(rt, &socket).is_err();
+        return;
+    }
+    let theirs: Result<Arc<Shared>, AllocError> = it.clone();
+    let Ok(theirs) = theirs else {
+        it.clients.fetch_sub(1, Ordering::SeqCst);
+        return;
+    };
+    let own = *rt;
+    if thread::spawn(rt, move || client_thread(own, theirs, socket)).is_err() {
+        it.clients.fetch_sub(1, Ordering::SeqCst);
+    }
+}
+
+/// Tells a client that there are too many.
+fn turn_away<R: Runner>(rt: &R, socket: &TcpStream) -> io::Result<()> {
+    write_all(rt, socket, FULL, Deadline::new(rt, 1000)?)
+}
+
+/// One client's thread.
+fn client_thread<R: Runner>(rt: R, it: Arc<Shared>, socket: TcpStream) {
+    let it: &Shared = &it;
+    let _ended = serve_client(&rt, it, &socket).is_err();
+    it.clients.fetch_sub(1, Ordering::SeqCst);
+}
+
+/// Serves a client until it goes.
+fn serve_client<R: Runner>(rt: &R, it: &Shared, socket: &TcpStream) -> io::Result<()> {
+    socket.set_nodelay(true)?;
+    match converse(rt, it, socket) {
+        Ok(Some(from)) => serve_follower(rt, it, socket, from),
+        Ok(None) => Ok(()),
+        Err(error) => {
+            if error.kind() == io::ErrorKind::TimedOut
+                || error.kind() == io::ErrorKind::WouldBlock
+            {
+                return write_all(rt, socket, LATE, Deadline::new(rt, 1000)?);
+            }
+            Err(error)
+        }
+    }
+}
+
+/// Serves requests over a connection, until it is done. Returns the position of a follower, once
+/// one asks for the stream.
+fn converse<R: Runner>(
+    rt: &R,
+    it: &Shared,
+    socket: &TcpStream,
+) -> io::Result<Option<Option<Position>>> {
+    let deadline = Deadline::new(rt, TO_COME)?;
+    let mut connection = Connection::new(it.alloc, it.keys, config());
+    let mut door = Door {
+        alloc: it.alloc,
+        policy: it.policy(),
+        scope: it.scope,
+        cluster: Reach {
+            rt,
+            it,
+            handed: GhostRecord::new(),
+        },
+        follow: None,
+    };
+    let mut timed = Timed {
+        rt,
+        socket,
+        deadline,
+        writes: false,
+    };
+    talk(&mut connection, &mut door, &mut timed)?;
+    Ok(door.follow)
+}
+
+/// Returns the limits of a connection.
+fn config() -> Config {
+    let mut config = Config::default();
+    config.max_body_len = LONGEST_BODY;
+    config.read_size = 2048;
+    config
+}
+
+/// Serves requests over a connection, until it is done.
+fn talk<R: Runner>(
+    connection: &mut Connection,
+    door: &mut Door<'_, Reach<'_, R>>,
+    timed: &mut Timed<'_, R>,
+) -> io::Result<()> {
+    for _ in 0..u64::MAX {
+        if answer_some(connection, door) {
+            return Ok(());
+        }
+        move_some(connection, timed)?;
+    }
+    Ok(())
+}
+
+/// Answers what was read. Returns `true` once the connection is done.
+fn answer_some<R: Runner>(connection: &mut Connection, door: &mut Door<'_, Reach<'_, R>>) -> bool {
+    connection.advance(door);
+    door.follow.is_some() || door.cluster.it.is_over() || connection.is_done()
+}
+
+/// Writes or reads, as the connection wants.
+fn move_some<R: Clock + 'static>(
+    connection: &mut Connection,
+    timed: &mut Timed<'_, R>,
+) -> io::Result<()> {
+    if connection.wants_write() {
+        write_some(connection, timed)
+    } else {
+        read_some(connection, timed)
+    }
+}
+
+/// Writes some of what is pending.
+fn write_some<R: Clock + 'static>(
+    connection: &mut Connection,
+    timed: &mut Timed<'_, R>,
+) -> io::Result<()> {
+    timed.turn(true)?;
+    let written = connection.write_to(timed)?;
+    if written == 0 {
+        return Err(io::Error::from(io::ErrorKind::WriteZero));
+    }
+    Ok(())
+}
+
+/// Reads some of the next request.
+fn read_some<R: Clock + 'static>(
+    connection: &mut Connection,
+    timed: &mut Timed<'_, R>,
+) -> io::Result<()> {
+    timed.turn(false)?;
+    let _read = connection.read_from(timed)?;
+    Ok(())
+}
+
+/// A connection of a client, with the time in which its next request has to come.
+#[derive(Drop)]
+struct Timed<'a, R: 'static> {
+    rt: &'a R,
+    socket: &'a TcpStream,
+    deadline: Deadline,
+    /// Set while answers are written.
+    writes: bool,
+}
+
+impl<'a, R: Clock + 'static> Read for Timed<'a, R> {
+    fn read(&mut self, piece: &mut [u8]) -> io::Result<usize> {
+        let limit = self.deadline.left(self.rt)?;
+        self.socket.set_read_timeout(Some(limit))?;
+        read_from(self.socket, piece)
+    }
+}
+
+impl<'a, R: Clock + 'static> Write for Timed<'a, R> {
+    fn write(&mut self, piece: &[u8]) -> io::Result<usize> {
+        let limit = self.deadline.left(self.rt)?;
+        self.socket.set_write_timeout(Some(limit))?;
+        write_to(self.socket, piece)
+    }
+
+    fn flush(&mut self) -> io::Result<()> {
+        Ok(())
+    }
+}
+
+impl<'a, R: Clock + 'static> Timed<'a, R> {
+    /// Begins the time anew, in which a request has to come or answers have to be taken, unless it
+    /// runs.
+    fn turn(&mut self, writes: bool) -> io::Result<()> {
+        if self.writes == writes {
+            return Ok(());
+        }
+        let limit = if writes { TO_TAKE } else { TO_COME };
+        self.deadline = Deadline::new(self.rt, limit)?;
+        self.writes = writes;
+        Ok(())
+    }
 }

@@ -35,6 +35,45 @@ struct Batch {
     number: u64,
 }
 
+/// Serves a follower, if there aren't too many.
+pub(crate) fn serve_follower<R: Runner>(
+    rt: &R,
+    it: &Shared,
+    socket: &TcpStream,
+    from: Option<Position>,
+) -> io::Result<()> {
+    if it.streams.fetch_add(1, Ordering::SeqCst) >= MOST_STREAMS {
+        it.streams.fetch_sub(1, Ordering::SeqCst);
+        return write_all(rt, socket, BUSY, Deadline::new(rt, TO_TAKE)?);
+    }
+    let ended = stream_on(rt, it, socket, from);
+    it.streams.fetch_sub(1, Ordering::SeqCst);
+    ended
+}
+
+/// Sends events as they come, until the follower goes, doesn't take them, or the gateway ends.
+fn stream_on<R: Runner>(
+    rt: &R,
+    it: &Shared,
+    socket: &TcpStream,
+    from: Option<Position>,
+) -> io::Result<()> {
+    write_all(rt, socket, HEAD, Deadline::new(rt, TO_TAKE)?)?;
+    let mut number = match from {
+        Some(at) if at.life == it.life => at.number,
+        _ => u64::MAX,
+    };
+    for _ in 0..u64::MAX {
+        if it.is_over() {
+            return Ok(());
+        }
+        let batch = next_batch(rt, it, number)?;
+        number = batch.number;
+        write_all(rt, socket, &batch.bytes, Deadline::new(rt, TO_TAKE)?)?;
+    }
+    Ok(())
+}
+
 /// Returns the events after a number; a beat if there is none for a while; or that all must be
 /// loaded anew.
 fn next_batch<R: Runner>(rt: &R, it: &Shared, number: u64) -> Result<Batch, AllocError> {
@@ -68,43 +107,4 @@ fn next_batch<R: Runner>(rt: &R, it: &Shared, number: u64) -> Result<Batch, Allo
         bytes,
         number: last,
     })
-}
-
-/// Sends events as they come, until the follower goes, doesn't take them, or the gateway ends.
-fn stream_on<R: Runner>(
-    rt: &R,
-    it: &Shared,
-    socket: &TcpStream,
-    from: Option<Position>,
-) -> io::Result<()> {
-    write_all(rt, socket, HEAD, Deadline::new(rt, TO_TAKE)?)?;
-    let mut number = match from {
-        Some(at) if at.life == it.life => at.number,
-        _ => u64::MAX,
-    };
-    for _ in 0..u64::MAX {
-        if it.is_over() {
-            return Ok(());
-        }
-        let batch = next_batch(rt, it, number)?;
-        number = batch.number;
-        write_all(rt, socket, &batch.bytes, Deadline::new(rt, TO_TAKE)?)?;
-    }
-    Ok(())
-}
-
-/// Serves a follower, if there aren't too many.
-pub(crate) fn serve_follower<R: Runner>(
-    rt: &R,
-    it: &Shared,
-    socket: &TcpStream,
-    from: Option<Position>,
-) -> io::Result<()> {
-    if it.streams.fetch_add(1, Ordering::SeqCst) >= MOST_STREAMS {
-        it.streams.fetch_sub(1, Ordering::SeqCst);
-        return write_all(rt, socket, BUSY, Deadline::new(rt, TO_TAKE)?);
-    }
-    let ended = stream_on(rt, it, socket, from);
-    it.streams.fetch_sub(1, Ordering::SeqCst);
-    ended
 }

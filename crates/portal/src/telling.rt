@@ -17,12 +17,21 @@ use gateway::{
 use std::alloc::{AllocError, Global};
 use terms::Size;
 
-/// Returns the answer to a request that is refused so.
-fn refused_answer(alloc: Global, refusal: Refusal) -> Result<Answer, AllocError>
-    ensures { IfOk result (λ answer. answer.status ≡ status_of refusal) }
+/// Returns the answer about a question of a cluster of this size.
+pub(crate) fn question_answer(
+    alloc: Global,
+    book: &Book,
+    size: Size,
+    question: u64,
+) -> Result<Answer, AllocError>
+    ensures { IfOk result
+        (λ answer. answer.status ≡ 200 → IsToldAt size question answer.body.items) }
 {
-    let text = refusal_text(alloc, refusal)?;
-    answer_of(alloc, status_of(refusal), Kind::Json, text.as_bytes())
+    let watch = book.watch();
+    if watch.size() != size {
+        return refused_answer(alloc, Refusal::Question);
+    }
+    window_answer(alloc, watch, question, book.stage(question))
 }
 
 /// Returns the answer about a question of the watch's window: what members told of it, or that it
@@ -50,21 +59,12 @@ pub(crate) fn window_answer(
     }
 }
 
-/// Returns the answer about a question of a cluster of this size.
-pub(crate) fn question_answer(
-    alloc: Global,
-    book: &Book,
-    size: Size,
-    question: u64,
-) -> Result<Answer, AllocError>
-    ensures { IfOk result
-        (λ answer. answer.status ≡ 200 → IsToldAt size question answer.body.items) }
+/// Returns the answer to a request that is refused so.
+fn refused_answer(alloc: Global, refusal: Refusal) -> Result<Answer, AllocError>
+    ensures { IfOk result (λ answer. answer.status ≡ status_of refusal) }
 {
-    let watch = book.watch();
-    if watch.size() != size {
-        return refused_answer(alloc, Refusal::Question);
-    }
-    window_answer(alloc, watch, question, book.stage(question))
+    let text = refusal_text(alloc, refusal)?;
+    answer_of(alloc, status_of(refusal), Kind::Json, text.as_bytes())
 }
 
 /// Returns the answer about these questions at this moment, with the milliseconds since 1970.
@@ -95,6 +95,17 @@ pub(crate) fn metrics_answer(alloc: Global, book: &Book) -> Result<Answer, Alloc
     Ok(good_answer(Kind::Metrics, body))
 }
 
+/// Returns whether the cluster can decide: n - t members answer and have as many links as they
+/// need.
+pub(crate) fn ready_answer(it: &Shared, book: &Book) -> Result<Answer, AllocError> {
+    let count = linked_count(book, it.scope.size)?;
+    it.scope.size.recall();
+    let needed = usize::from(it.scope.size.n() - it.scope.size.t());
+    let ready = needed <= count;
+    let status = if ready { 200 } else { 503 };
+    answer_of(it.alloc, status, Kind::Json, ready_text(ready).as_bytes())
+}
+
 /// Returns how many members answer and have as many links as they need to decide.
 fn linked_count(book: &Book, size: Size) -> Result<usize, AllocError> {
     let views = book.members()?;
@@ -105,15 +116,4 @@ fn linked_count(book: &Book, size: Size) -> Result<usize, AllocError> {
         }
     }
     Ok(count)
-}
-
-/// Returns whether the cluster can decide: n - t members answer and have as many links as they
-/// need.
-pub(crate) fn ready_answer(it: &Shared, book: &Book) -> Result<Answer, AllocError> {
-    let count = linked_count(book, it.scope.size)?;
-    it.scope.size.recall();
-    let needed = usize::from(it.scope.size.n() - it.scope.size.t());
-    let ready = needed <= count;
-    let status = if ready { 200 } else { 503 };
-    answer_of(it.alloc, status, Kind::Json, ready_text(ready).as_bytes())
 }

@@ -13,17 +13,6 @@ use crate::touched::Touched;
 use std::alloc::AllocError;
 use terms::{Place, Size, Statement};
 
-/// Returns the spot of the place.
-fn spot(size: Size, place: Place) -> u16
-    requires { place.origin < size.n }
-    ensures value { result ≡ spot_of size.n place }
-    ensures few { result < 8000 }
-    ensures place { IsPlace place }
-{
-    let row = 3 * place.round() + place.step() - 4;
-    u16::from(row) * u16::from(size.n()) + u16::from(place.origin())
-}
-
 /// Returns what is known of the place.
 pub fn known_at(cells: &Touched, size: Size, place: Place) -> Known
     requires { place.origin < size.n }
@@ -76,4 +65,15 @@ pub fn receive(
     let spot = spot(size, s.place());
     let number = cells.reach(spot)?;
     Ok(cells.receive(number, size, from, s))
+}
+
+/// Returns the spot of the place.
+fn spot(size: Size, place: Place) -> u16
+    requires { place.origin < size.n }
+    ensures value { result ≡ spot_of size.n place }
+    ensures few { result < 8000 }
+    ensures place { IsPlace place }
+{
+    let row = 3 * place.round() + place.step() - 4;
+    u16::from(row) * u16::from(size.n()) + u16::from(place.origin())
 }

@@ -75,261 +75,138 @@ const LEGEND: &str = "<path class=\"dot\" d=\"M40 0m-5 0a5 5 0 1 0 10 0a5 5 0 1 
 /// The height of the legend.
 const LEGEND_HEIGHT: u64 = 160;
 
-/// Returns the place of that member's lifeline.
-fn x_of(member: u8) -> u64
-    ensures { result ≡ 220 * member + 110 }
-{
-    220 * u64::from(member) + 110
+/// A run of a cluster: its size, its liars, its events, and of each what became of it and what was
+/// saved because of it.
+#[derive(Clone, Copy)]
+pub struct Run<'a> {
+    /// The size of the cluster.
+    pub size: Size,
+    /// The members that lie.
+    pub liars: &'a [u8],
+    /// The events, in order.
+    pub events: &'a [Event],
+    /// The outcome of each event.
+    pub marks: &'a [Mark],
+    /// The records that were saved because of each event.
+    pub saved: &'a [Vec<Record>],
 }
 
-/// Returns the place of the row of that number, counted from 0. After each 40 rows there is room
-/// for the heads.
-fn y_of(row: u64) -> u64
-    ensures { row ≤ MOST_EVENTS → result ≡ 36 * (row + row / 40) + 66 }
-{
-    row.saturating_add(row / HEADS)
-        .saturating_mul(ROW)
-        .saturating_add(TOP)
-}
-
-/// The question, where there are several.
-fn on_question(alloc: Global, questions: u16, question: u16) -> Result<String, AllocError>
-    ensures { IfOk result (λ text. string_bytes text ≡ on_question questions question) }
-{
-    if questions > 1 {
-        format!(in alloc; " on {question}")
-    } else {
-        Ok(String::new(alloc))
-    }
-}
-
-/// Returns how many calls a fuse lets pass.
-fn calls_text(alloc: Global, calls: Option<u64>) -> Result<String, AllocError>
-    ensures { IfOk result (λ text. string_bytes text ≡ calls_text calls) }
-{
-    match calls {
-        None => String::from_str(alloc, "off"),
-        Some(calls) => format!(in alloc; "{calls}"),
-    }
-}
-
-/// Returns what a crash leaves: `kept`, `lost`, or `fill` and the byte in two hexadecimal digits.
-fn pick_text(alloc: Global, pick: Pick) -> Result<String, AllocError>
-    ensures { IfOk result (λ text. string_bytes text ≡ pick_text pick) }
-{
-    match pick {
-        Pick::Kept => String::from_str(alloc, "kept"),
-        Pick::Lost => String::from_str(alloc, "lost"),
-        Pick::Fill(byte) => format!(in alloc; "fill {byte:02x}"),
-    }
-}
-
-/// Adds a part to a list behind a verb.
-fn add_part(text: &mut String, verb: &str, part: &str) -> Result<(), AllocError>
-    ensures { (parts : List (List ℕ)) → 0 < length verb.now →
-        string_bytes text.old ≡ listed verb.now parts →
-        OnOk result (string_bytes text.new ≡ listed verb.now (parts ++ part.now ∷ [])) }
-{
-    let before = if text.is_empty() { verb } else { "," };
-    text.push_str(before)?;
-    text.push_str(" ")?;
-    text.push_str(part)
-}
-
-/// Returns how many statements of that kind are among the records.
-fn count_of(kind: Kind, saved: &[Record]) -> usize
-    ensures { result ≡ count_by (is_said_of kind) saved.now }
-{
-    saved
-        .iter()
-        .filter(|record| matches!(record, Record::Said(statement) if statement.kind() == kind))
-        .count()
-}
-
-/// Adds so many statements of a kind to a list behind a verb; nothing where there are none.
-fn add_kind(
+/// Draws the events of a run that are chosen and weren't skipped as a sequence chart in SVG, each
+/// in a row with its number, counted from 1, and returns how many rows there are. A member's
+/// lifeline is solid while it runs, and dashed while it is down or stopped. The columns have their
+/// heads at the top and again after each 40 rows; below stands what the signs mean. On a dark page
+/// the picture is dark. If the lists are of unequal lengths the chart goes as far as the shortest.
+///
+/// Events that aren't drawn still count: an arrow carries what it carried in the run, and a
+/// lifeline turns where the next row stands.
+///
+/// The chart is written row by row as it is drawn, so that a long one takes no memory but for the
+/// lifelines and a byte for each event.
+///
+/// # Errors
+///
+/// Those of the writer, and [`io::ErrorKind::OutOfMemory`] if a growth failed: a part of the chart
+/// may be written then.
+pub fn write_chart<W: Write>(
     alloc: Global,
-    text: &mut String,
-    verb: &str,
-    kind: Kind,
-    count: usize,
-) -> Result<(), AllocError>
-    ensures { (parts : List (List ℕ)) → 0 < length verb.now →
-        string_bytes text.old ≡ listed verb.now parts →
-        OnOk result (string_bytes text.new ≡ listed verb.now (parts ++ counted kind count)) }
+    run: &Run<'_>,
+    choice: Choice,
+    output: &mut W,
+) -> io::Result<u64>
+    ensures { length run.now.events.now ≤ MOST_EVENTS →
+        IfOk result (λ rows. (text : List ℕ)
+        × IsChart choice run.now.size run.now.liars.now run.now.events.now run.now.marks.now
+        run.now.saved.now rows text × IsSvg text
+        × Appends (W.contents output.old) (W.contents output.new) text) }
 {
-    let word = kind_word(kind);
-    match count {
-        0 => Ok(()),
-        1 => add_part(text, verb, word),
-        many => {
-            let part = format!(in alloc; "{many} {word}s")?;
-            add_part(text, verb, part.as_str())
-        }
-    }
+    let size = run.size;
+    let chosen = chosen_of(alloc, run, choice)?;
+    let mut lines = lifelines_of(alloc, run, &chosen)?;
+    let rows = lines.rows();
+    let bottom = y_of(rows);
+    lines.end(size.n(), bottom)?;
+    write_top(alloc, x_of(size.n()), bottom, lines.as_str(), output)?;
+    write_rows(alloc, run, &chosen, output)?;
+    write_bottom(alloc, bottom, output)?;
+    Ok(rows)
 }
 
-/// Returns what was said, by kinds, behind the verb; nothing where nothing was.
-fn said_text(alloc: Global, verb: &str, saved: &[Record]) -> Result<String, AllocError>
-    ensures { 0 < length verb.now →
-        IfOk result (λ text. string_bytes text ≡ said_text verb.now saved.now) }
-{
-    let mut text = String::new(alloc);
-    for kind in [Kind::Initial, Kind::Echo, Kind::Ready] {
-        add_kind(alloc, &mut text, verb, kind, count_of(kind, saved))?;
-    }
-    Ok(text)
-}
-
-/// Returns what a member does with the statements that are saved because of the event.
-fn said_verb(event: &Event) -> &'static str
-    ensures { result.now ≡ said_verb event.now }
-{
-    match event {
-        Event::Restart { .. } => "keeps",
-        _ => "says",
-    }
-}
-
-/// A decision.
-fn decision(alloc: Global, questions: u16, question: u16, bit: bool) -> Result<String, AllocError>
-    ensures { IfOk result (λ text. string_bytes text ≡ decision questions question bit) }
-{
-    let on = on_question(alloc, questions, question)?;
-    format!(in alloc; "{}{on}", u8::from(bit))
-}
-
-/// Returns what was decided; nothing where nothing was.
-fn decided_text(alloc: Global, questions: u16, saved: &[Record]) -> Result<String, AllocError>
-    ensures { IfOk result (λ text. string_bytes text ≡ decided_text questions saved.now) }
-{
-    let mut text = String::new(alloc);
-    for record in saved {
-        if let Record::Decided { question, bit, .. } = *record {
-            let decision = decision(alloc, questions, question, bit)?;
-            add_part(&mut text, "decides", decision.as_str())?;
-        }
-    }
-    Ok(text)
-}
-
-/// The words of an arrow to the right, or else to the left.
-fn arrow_words(is_rightward: bool) -> Words
-    ensures { result ≡ arrow_words is_rightward }
-{
-    if is_rightward {
-        Words::Rightward
-    } else {
-        Words::Leftward
-    }
-}
-
-/// The words of a liar's arrow to the right, or else to the left.
-fn lie_words(is_rightward: bool) -> Words
-    ensures { result ≡ lie_words is_rightward }
-{
-    if is_rightward {
-        Words::LieRightward
-    } else {
-        Words::LieLeftward
-    }
-}
-
-/// Returns `true` if an arrow crosses two columns or more.
-fn is_long(from: u8, to: u8) -> bool
-    ensures { result ≡ (nat_lt (from + 1) to || nat_lt (to + 1) from) }
-{
-    from.abs_diff(to) > 1
-}
-
-/// The name of a member, and whether it lies.
-fn head_text(alloc: Global, member: u8, is_liar: bool) -> Result<String, AllocError>
-    ensures { IfOk result (λ text. string_bytes text ≡ head_text member is_liar) }
-{
-    if is_liar {
-        format!(in alloc; "member {member} (lies)")
-    } else {
-        format!(in alloc; "member {member}")
-    }
-}
-
-/// Draws the head of a member's column that far down.
-fn draw_head(
+/// Writes the beginning of a picture of that width, as far down as that, and the lifelines below
+/// all else.
+fn write_top<W: Write>(
     alloc: Global,
-    events: &mut Drawing,
-    columns: &[Column],
-    member: u8,
-    y: u64,
-) -> Result<(), AllocError>
-    ensures { OnOk result
-        (Grows events.old events.new (head_elements (slice_get columns.now member) member y)) }
+    width: u64,
+    bottom: u64,
+    lifelines: &str,
+    output: &mut W,
+) -> io::Result<()>
+    ensures { bottom + 196 < 2 ^ 64 →
+        OnOk result (Appends (W.contents output.old) (W.contents output.new)
+        (picture_top width bottom lifelines.now)) }
 {
-    match columns.get(usize::from(member)) {
-        None => Ok(()),
-        Some(column) => {
-            let name = head_text(alloc, member, column.is_liar())?;
-            events.words(Words::Head, x_of(member), y, name.as_str())
-        }
-    }
+    let height = bottom.saturating_add(36 + LEGEND_HEIGHT);
+    let size = size_text(alloc, width, height)?;
+    let page = page_text(alloc, width, height)?;
+    let top = format!(in alloc; "<svg {size}{page}{lifelines}")?;
+    output.write_all(top.as_bytes())
 }
 
-/// Draws the heads of the columns of n members that far down.
-fn draw_heads(
-    alloc: Global,
-    events: &mut Drawing,
-    n: u8,
-    columns: &[Column],
-    y: u64,
-) -> Result<(), AllocError>
-    ensures { OnOk result (Grows events.old events.new (heads n columns.now y)) }
+/// The picture's own attributes, and the size of its page.
+fn size_text(alloc: Global, width: u64, height: u64) -> Result<String, AllocError>
+    ensures { IfOk result (λ text. string_bytes text ≡ size_text width height) }
 {
-    for member in 0..n {
-        draw_head(alloc, events, columns, member, y)?;
+    format!(in alloc;
+        "xmlns=\"http://www.w3.org/2000/svg\" width=\"{width}\" height=\"{height}\" viewBox=\"0 0 {width} {height}\">\n"
+    )
+}
+
+/// Returns how the elements look, and the page below them.
+fn page_text(alloc: Global, width: u64, height: u64) -> Result<String, AllocError>
+    ensures { IfOk result (λ text. string_bytes text ≡ page_text width height) }
+{
+    format!(in alloc;
+        "{}\n<rect class=\"page\" width=\"{width}\" height=\"{height}\"/>\n",
+        STYLE
+    )
+}
+
+/// Writes the heads of the columns, and the rows of the events that are chosen, each as soon as it
+/// is drawn.
+fn write_rows<W: Write>(
+    alloc: Global,
+    run: &Run<'_>,
+    chosen: &[bool],
+    output: &mut W,
+) -> io::Result<()>
+    ensures { length run.now.events.now ≤ MOST_EVENTS →
+        OnOk result ((rows : List ℕ) × AreRows run.now.size run.now.liars.now run.now.events.now
+        run.now.marks.now run.now.saved.now chosen.now rows
+        × Appends (W.contents output.old) (W.contents output.new) rows) }
+{
+    let count = shortest(run).min(chosen.len());
+    let mut canvas = Canvas::new(alloc, run.size, run.liars)?;
+    canvas.write_out(output)?;
+    for (index, event) in run.events[..count].iter().enumerate() {
+        let number = index + 1;
+        canvas.take(
+            number,
+            event,
+            run.marks[index],
+            &run.saved[index],
+            chosen[index],
+        )?;
+        canvas.write_out(output)?;
     }
     Ok(())
 }
 
-/// The columns of n members before the first event.
-fn new_columns(alloc: Global, n: u8, liars: &[u8]) -> Result<Vec<Column>, AllocError>
-    ensures { IfOk result (λ columns. AreNew n n liars.now columns.items) }
+/// Returns how many events are drawn: as many as the shortest of the lists has.
+fn shortest(run: &Run<'_>) -> usize
+    ensures { result
+        ≡ min (min (length run.now.events.now) (length run.now.marks.now))
+        (length run.now.saved.now) }
 {
-    let mut columns = Vec::new(alloc);
-    for member in 0..n {
-        let is_liar = liars.contains(&member);
-        columns.push(Column::new(alloc, n, is_liar)?)?;
-    }
-    Ok(columns)
-}
-
-/// Counts the statements that the sender of a group has said; other events go by no such count.
-fn said_before(columns: &[Column], event: &Event) -> usize
-    ensures { result ≡ said_before event.now columns.now }
-{
-    let Event::DeliverAll { from, .. } = event else {
-        return 0;
-    };
-    match columns.get(usize::from(*from)) {
-        Some(column) => column.said_count(),
-        None => 0,
-    }
-}
-
-/// Follows the event with the columns of all members.
-fn follow_all(
-    columns: &mut Vec<Column>,
-    event: &Event,
-    mark: Mark,
-    saved: &[Record],
-) -> Result<(), AllocError>
-    ensures follow { OnOk result
-        (FollowAll event.now mark saved.now columns.old.items columns.new.items) }
-    ensures count { OnOk result (length columns.new.items ≡ length columns.old.items) }
-{
-    let said = said_before(columns, event);
-    match columns.get_mut(usize::from(member_of(event))) {
-        None => Ok(()),
-        Some(column) => column.follow(said, event, mark, saved),
-    }
+    run.events.len().min(run.marks.len()).min(run.saved.len())
 }
 
 /// The rows of a run, as far as they are drawn, and those of them that aren't written yet.
@@ -752,50 +629,261 @@ impl Canvas {
     }
 }
 
-/// The picture's own attributes, and the size of its page.
-fn size_text(alloc: Global, width: u64, height: u64) -> Result<String, AllocError>
-    ensures { IfOk result (λ text. string_bytes text ≡ size_text width height) }
+/// The columns of n members before the first event.
+fn new_columns(alloc: Global, n: u8, liars: &[u8]) -> Result<Vec<Column>, AllocError>
+    ensures { IfOk result (λ columns. AreNew n n liars.now columns.items) }
 {
-    format!(in alloc;
-        "xmlns=\"http://www.w3.org/2000/svg\" width=\"{width}\" height=\"{height}\" viewBox=\"0 0 {width} {height}\">\n"
-    )
+    let mut columns = Vec::new(alloc);
+    for member in 0..n {
+        let is_liar = liars.contains(&member);
+        columns.push(Column::new(alloc, n, is_liar)?)?;
+    }
+    Ok(columns)
 }
 
-/// Returns how the elements look, and the page below them.
-fn page_text(alloc: Global, width: u64, height: u64) -> Result<String, AllocError>
-    ensures { IfOk result (λ text. string_bytes text ≡ page_text width height) }
-{
-    format!(in alloc;
-        "{}\n<rect class=\"page\" width=\"{width}\" height=\"{height}\"/>\n",
-        STYLE
-    )
-}
-
-/// Returns what the signs mean, that far down.
-fn legend_text(alloc: Global, below: u64) -> Result<String, AllocError>
-    ensures { IfOk result (λ text. string_bytes text ≡ legend_text below) }
-{
-    format!(in alloc; "<g transform=\"translate(0,{below})\">\n{}</g>\n", LEGEND)
-}
-
-/// Writes the beginning of a picture of that width, as far down as that, and the lifelines below
-/// all else.
-fn write_top<W: Write>(
+/// Draws the heads of the columns of n members that far down.
+fn draw_heads(
     alloc: Global,
-    width: u64,
-    bottom: u64,
-    lifelines: &str,
-    output: &mut W,
-) -> io::Result<()>
-    ensures { bottom + 196 < 2 ^ 64 →
-        OnOk result (Appends (W.contents output.old) (W.contents output.new)
-        (picture_top width bottom lifelines.now)) }
+    events: &mut Drawing,
+    n: u8,
+    columns: &[Column],
+    y: u64,
+) -> Result<(), AllocError>
+    ensures { OnOk result (Grows events.old events.new (heads n columns.now y)) }
 {
-    let height = bottom.saturating_add(36 + LEGEND_HEIGHT);
-    let size = size_text(alloc, width, height)?;
-    let page = page_text(alloc, width, height)?;
-    let top = format!(in alloc; "<svg {size}{page}{lifelines}")?;
-    output.write_all(top.as_bytes())
+    for member in 0..n {
+        draw_head(alloc, events, columns, member, y)?;
+    }
+    Ok(())
+}
+
+/// Draws the head of a member's column that far down.
+fn draw_head(
+    alloc: Global,
+    events: &mut Drawing,
+    columns: &[Column],
+    member: u8,
+    y: u64,
+) -> Result<(), AllocError>
+    ensures { OnOk result
+        (Grows events.old events.new (head_elements (slice_get columns.now member) member y)) }
+{
+    match columns.get(usize::from(member)) {
+        None => Ok(()),
+        Some(column) => {
+            let name = head_text(alloc, member, column.is_liar())?;
+            events.words(Words::Head, x_of(member), y, name.as_str())
+        }
+    }
+}
+
+/// The name of a member, and whether it lies.
+fn head_text(alloc: Global, member: u8, is_liar: bool) -> Result<String, AllocError>
+    ensures { IfOk result (λ text. string_bytes text ≡ head_text member is_liar) }
+{
+    if is_liar {
+        format!(in alloc; "member {member} (lies)")
+    } else {
+        format!(in alloc; "member {member}")
+    }
+}
+
+/// Returns the place of that member's lifeline.
+fn x_of(member: u8) -> u64
+    ensures { result ≡ 220 * member + 110 }
+{
+    220 * u64::from(member) + 110
+}
+
+/// Returns the place of the row of that number, counted from 0. After each 40 rows there is room
+/// for the heads.
+fn y_of(row: u64) -> u64
+    ensures { row ≤ MOST_EVENTS → result ≡ 36 * (row + row / 40) + 66 }
+{
+    row.saturating_add(row / HEADS)
+        .saturating_mul(ROW)
+        .saturating_add(TOP)
+}
+
+/// The words of an arrow to the right, or else to the left.
+fn arrow_words(is_rightward: bool) -> Words
+    ensures { result ≡ arrow_words is_rightward }
+{
+    if is_rightward {
+        Words::Rightward
+    } else {
+        Words::Leftward
+    }
+}
+
+/// Returns `true` if an arrow crosses two columns or more.
+fn is_long(from: u8, to: u8) -> bool
+    ensures { result ≡ (nat_lt (from + 1) to || nat_lt (to + 1) from) }
+{
+    from.abs_diff(to) > 1
+}
+
+/// The words of a liar's arrow to the right, or else to the left.
+fn lie_words(is_rightward: bool) -> Words
+    ensures { result ≡ lie_words is_rightward }
+{
+    if is_rightward {
+        Words::LieRightward
+    } else {
+        Words::LieLeftward
+    }
+}
+
+/// Returns how many calls a fuse lets pass.
+fn calls_text(alloc: Global, calls: Option<u64>) -> Result<String, AllocError>
+    ensures { IfOk result (λ text. string_bytes text ≡ calls_text calls) }
+{
+    match calls {
+        None => String::from_str(alloc, "off"),
+        Some(calls) => format!(in alloc; "{calls}"),
+    }
+}
+
+/// Returns what a crash leaves: `kept`, `lost`, or `fill` and the byte in two hexadecimal digits.
+fn pick_text(alloc: Global, pick: Pick) -> Result<String, AllocError>
+    ensures { IfOk result (λ text. string_bytes text ≡ pick_text pick) }
+{
+    match pick {
+        Pick::Kept => String::from_str(alloc, "kept"),
+        Pick::Lost => String::from_str(alloc, "lost"),
+        Pick::Fill(byte) => format!(in alloc; "fill {byte:02x}"),
+    }
+}
+
+/// Returns what was said, by kinds, behind the verb; nothing where nothing was.
+fn said_text(alloc: Global, verb: &str, saved: &[Record]) -> Result<String, AllocError>
+    ensures { 0 < length verb.now →
+        IfOk result (λ text. string_bytes text ≡ said_text verb.now saved.now) }
+{
+    let mut text = String::new(alloc);
+    for kind in [Kind::Initial, Kind::Echo, Kind::Ready] {
+        add_kind(alloc, &mut text, verb, kind, count_of(kind, saved))?;
+    }
+    Ok(text)
+}
+
+/// Adds so many statements of a kind to a list behind a verb; nothing where there are none.
+fn add_kind(
+    alloc: Global,
+    text: &mut String,
+    verb: &str,
+    kind: Kind,
+    count: usize,
+) -> Result<(), AllocError>
+    ensures { (parts : List (List ℕ)) → 0 < length verb.now →
+        string_bytes text.old ≡ listed verb.now parts →
+        OnOk result (string_bytes text.new ≡ listed verb.now (parts ++ counted kind count)) }
+{
+    let word = kind_word(kind);
+    match count {
+        0 => Ok(()),
+        1 => add_part(text, verb, word),
+        many => {
+            let part = format!(in alloc; "{many} {word}s")?;
+            add_part(text, verb, part.as_str())
+        }
+    }
+}
+
+/// Returns how many statements of that kind are among the records.
+fn count_of(kind: Kind, saved: &[Record]) -> usize
+    ensures { result ≡ count_by (is_said_of kind) saved.now }
+{
+    saved
+        .iter()
+        .filter(|record| matches!(record, Record::Said(statement) if statement.kind() == kind))
+        .count()
+}
+
+/// Returns what a member does with the statements that are saved because of the event.
+fn said_verb(event: &Event) -> &'static str
+    ensures { result.now ≡ said_verb event.now }
+{
+    match event {
+        Event::Restart { .. } => "keeps",
+        _ => "says",
+    }
+}
+
+/// Returns what was decided; nothing where nothing was.
+fn decided_text(alloc: Global, questions: u16, saved: &[Record]) -> Result<String, AllocError>
+    ensures { IfOk result (λ text. string_bytes text ≡ decided_text questions saved.now) }
+{
+    let mut text = String::new(alloc);
+    for record in saved {
+        if let Record::Decided { question, bit, .. } = *record {
+            let decision = decision(alloc, questions, question, bit)?;
+            add_part(&mut text, "decides", decision.as_str())?;
+        }
+    }
+    Ok(text)
+}
+
+/// A decision.
+fn decision(alloc: Global, questions: u16, question: u16, bit: bool) -> Result<String, AllocError>
+    ensures { IfOk result (λ text. string_bytes text ≡ decision questions question bit) }
+{
+    let on = on_question(alloc, questions, question)?;
+    format!(in alloc; "{}{on}", u8::from(bit))
+}
+
+/// The question, where there are several.
+fn on_question(alloc: Global, questions: u16, question: u16) -> Result<String, AllocError>
+    ensures { IfOk result (λ text. string_bytes text ≡ on_question questions question) }
+{
+    if questions > 1 {
+        format!(in alloc; " on {question}")
+    } else {
+        Ok(String::new(alloc))
+    }
+}
+
+/// Adds a part to a list behind a verb.
+fn add_part(text: &mut String, verb: &str, part: &str) -> Result<(), AllocError>
+    ensures { (parts : List (List ℕ)) → 0 < length verb.now →
+        string_bytes text.old ≡ listed verb.now parts →
+        OnOk result (string_bytes text.new ≡ listed verb.now (parts ++ part.now ∷ [])) }
+{
+    let before = if text.is_empty() { verb } else { "," };
+    text.push_str(before)?;
+    text.push_str(" ")?;
+    text.push_str(part)
+}
+
+/// Follows the event with the columns of all members.
+fn follow_all(
+    columns: &mut Vec<Column>,
+    event: &Event,
+    mark: Mark,
+    saved: &[Record],
+) -> Result<(), AllocError>
+    ensures follow { OnOk result
+        (FollowAll event.now mark saved.now columns.old.items columns.new.items) }
+    ensures count { OnOk result (length columns.new.items ≡ length columns.old.items) }
+{
+    let said = said_before(columns, event);
+    match columns.get_mut(usize::from(member_of(event))) {
+        None => Ok(()),
+        Some(column) => column.follow(said, event, mark, saved),
+    }
+}
+
+/// Counts the statements that the sender of a group has said; other events go by no such count.
+fn said_before(columns: &[Column], event: &Event) -> usize
+    ensures { result ≡ said_before event.now columns.now }
+{
+    let Event::DeliverAll { from, .. } = event else {
+        return 0;
+    };
+    match columns.get(usize::from(*from)) {
+        Some(column) => column.said_count(),
+        None => 0,
+    }
 }
 
 /// Writes the end of a picture that is as far down as that: what the signs mean.
@@ -808,97 +896,9 @@ fn write_bottom<W: Write>(alloc: Global, bottom: u64, output: &mut W) -> io::Res
     output.write_all(end.as_bytes())
 }
 
-/// A run of a cluster: its size, its liars, its events, and of each what became of it and what was
-/// saved because of it.
-#[derive(Clone, Copy)]
-pub struct Run<'a> {
-    /// The size of the cluster.
-    pub size: Size,
-    /// The members that lie.
-    pub liars: &'a [u8],
-    /// The events, in order.
-    pub events: &'a [Event],
-    /// The outcome of each event.
-    pub marks: &'a [Mark],
-    /// The records that were saved because of each event.
-    pub saved: &'a [Vec<Record>],
-}
-
-/// Returns how many events are drawn: as many as the shortest of the lists has.
-fn shortest(run: &Run<'_>) -> usize
-    ensures { result
-        ≡ min (min (length run.now.events.now) (length run.now.marks.now))
-        (length run.now.saved.now) }
+/// Returns what the signs mean, that far down.
+fn legend_text(alloc: Global, below: u64) -> Result<String, AllocError>
+    ensures { IfOk result (λ text. string_bytes text ≡ legend_text below) }
 {
-    run.events.len().min(run.marks.len()).min(run.saved.len())
-}
-
-/// Writes the heads of the columns, and the rows of the events that are chosen, each as soon as it
-/// is drawn.
-fn write_rows<W: Write>(
-    alloc: Global,
-    run: &Run<'_>,
-    chosen: &[bool],
-    output: &mut W,
-) -> io::Result<()>
-    ensures { length run.now.events.now ≤ MOST_EVENTS →
-        OnOk result ((rows : List ℕ) × AreRows run.now.size run.now.liars.now run.now.events.now
-        run.now.marks.now run.now.saved.now chosen.now rows
-        × Appends (W.contents output.old) (W.contents output.new) rows) }
-{
-    let count = shortest(run).min(chosen.len());
-    let mut canvas = Canvas::new(alloc, run.size, run.liars)?;
-    canvas.write_out(output)?;
-    for (index, event) in run.events[..count].iter().enumerate() {
-        let number = index + 1;
-        canvas.take(
-            number,
-            event,
-            run.marks[index],
-            &run.saved[index],
-            chosen[index],
-        )?;
-        canvas.write_out(output)?;
-    }
-    Ok(())
-}
-
-/// Draws the events of a run that are chosen and weren't skipped as a sequence chart in SVG, each
-/// in a row with its number, counted from 1, and returns how many rows there are. A member's
-/// lifeline is solid while it runs, and dashed while it is down or stopped. The columns have their
-/// heads at the top and again after each 40 rows; below stands what the signs mean. On a dark page
-/// the picture is dark. If the lists are of unequal lengths the chart goes as far as the shortest.
-///
-/// Events that aren't drawn still count: an arrow carries what it carried in the run, and a
-/// lifeline turns where the next row stands.
-///
-/// The chart is written row by row as it is drawn, so that a long one takes no memory but for the
-/// lifelines and a byte for each event.
-///
-/// # Errors
-///
-/// Those of the writer, and [`io::ErrorKind::OutOfMemory`] if a growth failed: a part of the chart
-/// may be written then.
-pub fn write_chart<W: Write>(
-    alloc: Global,
-    run: &Run<'_>,
-    choice: Choice,
-    output: &mut W,
-) -> io::Result<u64>
-    ensures { length run.now.events.now ≤ MOST_EVENTS →
-        IfOk result (λ rows. (text : List ℕ)
-        × IsChart choice run.now.size run.now.liars.now run.now.events.now run.now.marks.now
-        run.now.saved.now rows text × IsSvg text
-        × Appends (W.contents output.old) (W.contents output.new) text) }
-{
-    let size = run.size;
-    let chosen = chosen_of(alloc, run, choice)?;
-    let mut lines = lifelines_of(alloc, run, &chosen)?;
-    let rows = lines.rows();
-    let bottom = y_of(rows);
-    lines.end(size.n(), bottom)?;
-    write_top(alloc, x_of(size.n()), bottom, lines.as_str(), output)?;
-    write_rows(alloc, run, &chosen, output)?;
-    write_bottom(alloc, bottom, output)?;
-    Ok(rows)
+    format!(in alloc; "<g transform=\"translate(0,{below})\">\n{}</g>\n", LEGEND)
 }

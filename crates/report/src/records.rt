@@ -17,19 +17,6 @@ pub fn kind_word(kind: Kind) -> &'static str
     }
 }
 
-/// The word of a value.
-fn value_word(value: Value) -> &'static str
-    ensures { result.now ≡ value_word value }
-{
-    match value {
-        Value::Zero => "zero",
-        Value::One => "one",
-        Value::SureZero => "sure-zero",
-        Value::SureOne => "sure-one",
-        Value::Unsure => "unsure",
-    }
-}
-
 /// The words of a statement: its kind, question, origin, round, step and value.
 pub fn statement_text(alloc: Global, statement: Statement) -> Result<String, AllocError>
     ensures { IfOk result (λ text. string_bytes text ≡ statement_text statement) }
@@ -44,6 +31,19 @@ pub fn statement_text(alloc: Global, statement: Statement) -> Result<String, All
         place.step(),
         value_word(statement.value())
     )
+}
+
+/// The word of a value.
+fn value_word(value: Value) -> &'static str
+    ensures { result.now ≡ value_word value }
+{
+    match value {
+        Value::Zero => "zero",
+        Value::One => "one",
+        Value::SureZero => "sure-zero",
+        Value::SureOne => "sure-one",
+        Value::Unsure => "unsure",
+    }
 }
 
 /// The words of a record: those of a statement, or `decided`, the question, the round and the bit.

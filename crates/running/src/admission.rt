@@ -23,40 +23,6 @@ pub(crate) struct Admission {
     left: Condvar,
 }
 
-/// A peer that was let in to greet: the number of its socket, and the host from which it comes.
-#[derive(Clone, Copy, Drop)]
-pub(crate) struct Guest {
-    pub(crate) socket: usize,
-    pub(crate) host: IpAddr,
-    /// Its Hello, where that was read already.
-    pub(crate) said: Option<[u8; 18]>,
-    _entered: Entered,
-}
-
-/// The slot that a client at the desk was given, and the number of its socket.
-#[derive(Clone, Copy, Drop)]
-pub(crate) struct Chair {
-    pub(crate) slot: Given,
-    pub(crate) socket: usize,
-    /// The bytes that were read of it already.
-    pub(crate) said: Said,
-}
-
-/// Returns the Hello that was read already, if one was.
-fn hello_of(said: &Said) -> Option<[u8; 18]> {
-    let bytes = said.bytes();
-    if bytes.len() != 18 {
-        return None;
-    }
-    let mut hello = [0; 18];
-    for (at, byte) in bytes.iter().enumerate() {
-        if at < 18 {
-            hello[at] = *byte;
-        }
-    }
-    Some(hello)
-}
-
 impl Admission {
     /// Nobody is in yet, and so many clients are let in at once.
     pub(crate) fn new(alloc: Global, clients: u8) -> Admission {
@@ -172,16 +138,50 @@ impl Admission {
         self.slots.lock(rt).hear(slot, now);
     }
 
+    /// Ends a client's session: its slot is given back, and its socket closed.
+    pub(crate) fn leave_chair<R: Machine>(&self, rt: &R, chair: Chair) {
+        self.sockets.lock(rt).leave(chair.socket);
+        self.leave_slot(rt, chair.slot.slot());
+    }
+
     /// Gives a slot back.
     pub(crate) fn leave_slot<R: Wait>(&self, rt: &R, slot: u8) {
         let mut slots = self.slots.lock(rt);
         slots.put(slot);
         self.left.notify_all();
     }
+}
 
-    /// Ends a client's session: its slot is given back, and its socket closed.
-    pub(crate) fn leave_chair<R: Machine>(&self, rt: &R, chair: Chair) {
-        self.sockets.lock(rt).leave(chair.socket);
-        self.leave_slot(rt, chair.slot.slot());
+/// A peer that was let in to greet: the number of its socket, and the host from which it comes.
+#[derive(Clone, Copy, Drop)]
+pub(crate) struct Guest {
+    pub(crate) socket: usize,
+    pub(crate) host: IpAddr,
+    /// Its Hello, where that was read already.
+    pub(crate) said: Option<[u8; 18]>,
+    _entered: Entered,
+}
+
+/// The slot that a client at the desk was given, and the number of its socket.
+#[derive(Clone, Copy, Drop)]
+pub(crate) struct Chair {
+    pub(crate) slot: Given,
+    pub(crate) socket: usize,
+    /// The bytes that were read of it already.
+    pub(crate) said: Said,
+}
+
+/// Returns the Hello that was read already, if one was.
+fn hello_of(said: &Said) -> Option<[u8; 18]> {
+    let bytes = said.bytes();
+    if bytes.len() != 18 {
+        return None;
     }
+    let mut hello = [0; 18];
+    for (at, byte) in bytes.iter().enumerate() {
+        if at < 18 {
+            hello[at] = *byte;
+        }
+    }
+    Some(hello)
 }

@@ -8,17 +8,6 @@ ghost use Rattle.votes.specs.Votes.{no_votes, value_of, with_vote};
 use terms::{Size, Value};
 use votes::Votes;
 
-/// These votes and that of a member; a number that is no member's adds none.
-fn with_member(votes: Votes, size: Size, member: u8) -> Votes
-    ensures noted { member < size.n → result ≡ with_vote votes member One }
-{
-    size.recall();
-    if member < size.n() {
-        return votes.with(member, Value::One);
-    }
-    votes
-}
-
 /// The members whose Welcome named more statements than this one has said: it lost its journal, or
 /// runs on an old copy. A member that lies may say so too, but more than t members don't all lie.
 #[derive(Clone, Copy, Debug, PartialEq, Eq)]
@@ -91,4 +80,15 @@ impl Welcomes {
         let needed = u32::from(size.n() - size.t());
         needed <= u32::from(self.votes.count(size, false, Value::One)) + 1
     }
+}
+
+/// These votes and that of a member; a number that is no member's adds none.
+fn with_member(votes: Votes, size: Size, member: u8) -> Votes
+    ensures noted { member < size.n → result ≡ with_vote votes member One }
+{
+    size.recall();
+    if member < size.n() {
+        return votes.with(member, Value::One);
+    }
+    votes
 }

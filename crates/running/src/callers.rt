@@ -28,20 +28,6 @@ pub(crate) struct Claim {
     pub(crate) to: u8,
 }
 
-/// The number that these bytes are, the highest first.
-fn number(bytes: &[u8; 8]) -> u64
-    ensures { to_be_bytes w64 result ≡ bytes.now }
-{
-    u64::from_be_bytes(*bytes)
-}
-
-/// The same of two.
-fn short(bytes: &[u8; 2]) -> u16
-    ensures { to_be_bytes w16 result ≡ bytes.now }
-{
-    u16::from_be_bytes(*bytes)
-}
-
 impl Claim {
     /// Returns what these bytes say, if they are a Hello. It may be one that no member of this
     /// cluster would send.
@@ -88,13 +74,6 @@ impl Claim {
         })
     }
 
-    fn has_size_of(&self, header: &Header) -> bool
-        ensures { result ≡ is_size self.now header.now.size }
-    {
-        let size = header.size();
-        self.n == size.n() && self.t == size.t() && self.questions == size.questions()
-    }
-
     /// In what it differs from what the header's member, with these peers, expects from that host.
     fn difference<J: Life>(
         &self,
@@ -126,6 +105,27 @@ impl Claim {
         }
         None
     }
+
+    fn has_size_of(&self, header: &Header) -> bool
+        ensures { result ≡ is_size self.now header.now.size }
+    {
+        let size = header.size();
+        self.n == size.n() && self.t == size.t() && self.questions == size.questions()
+    }
+}
+
+/// The number that these bytes are, the highest first.
+fn number(bytes: &[u8; 8]) -> u64
+    ensures { to_be_bytes w64 result ≡ bytes.now }
+{
+    u64::from_be_bytes(*bytes)
+}
+
+/// The same of two.
+fn short(bytes: &[u8; 2]) -> u16
+    ensures { to_be_bytes w16 result ≡ bytes.now }
+{
+    u16::from_be_bytes(*bytes)
 }
 
 /// In what a Hello differs from what the member expects to which it comes. The text of each is
@@ -149,6 +149,25 @@ pub enum Difference {
     To(u8),
     /// The Hello comes from a host that may not speak for its member.
     Host,
+}
+
+impl fmt::Display for Difference {
+    ghost use Rattle.std.specs.Prelude.{Some};
+    ghost use Rattle.running.specs.Callers.{difference_text};
+
+    ghost output = { λ difference. Some (difference_text difference) };
+
+    fn fmt<W: fmt::Write>(&self, f: &mut fmt::Formatter<W>) -> fmt::Result {
+        match *self {
+            Difference::Version(version) => write!(f, " of version {version}"),
+            Difference::Cluster(cluster) => write!(f, " of cluster {cluster}"),
+            Difference::Size { n, t, questions } => {
+                write!(f, " of n {n} t {t} questions {questions}")
+            }
+            Difference::To(member) => write!(f, " to member {member}"),
+            Difference::Host => f.write_str(" from another host"),
+        }
+    }
 }
 
 /// The member that a peer said it was, in a Hello.
@@ -175,25 +194,6 @@ impl Caller {
         Caller {
             member: claim.from,
             differs: claim.difference(header, peers, host),
-        }
-    }
-}
-
-impl fmt::Display for Difference {
-    ghost use Rattle.std.specs.Prelude.{Some};
-    ghost use Rattle.running.specs.Callers.{difference_text};
-
-    ghost output = { λ difference. Some (difference_text difference) };
-
-    fn fmt<W: fmt::Write>(&self, f: &mut fmt::Formatter<W>) -> fmt::Result {
-        match *self {
-            Difference::Version(version) => write!(f, " of version {version}"),
-            Difference::Cluster(cluster) => write!(f, " of cluster {cluster}"),
-            Difference::Size { n, t, questions } => {
-                write!(f, " of n {n} t {t} questions {questions}")
-            }
-            Difference::To(member) => write!(f, " to member {member}"),
-            Difference::Host => f.write_str(" from another host"),
         }
     }
 }

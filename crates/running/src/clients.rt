@@ -77,42 +77,30 @@ impl<D: Disk, J: Life, R: Wait> Stream for Client<'_, D, J, R> {
 }
 
 impl<D: Disk, J: Life> Shared<D, J> {
-    /// Answers the client in a chair over its stream; none where there is no memory for its pass.
-    fn serve_over<S: Stream, R: Machine>(
-        &self,
-        rt: &R,
-        slot: u8,
-        stream: &mut S,
-    ) -> Option<DeskEnd> {
-        let tosser = self.tossers.desk.get(usize::from(slot))?;
-        let board: &Board = self.hub.board();
-        let Ok(mut pass) = board.pass() else {
-            return None;
-        };
-        // Where another client is being closed for this one, its session has the tosser until it
-        // ends.
-        let mut tosser = tosser.lock(rt);
-        let desk = Desk {
-            hub: &self.hub,
-            turns: &self.turns,
-        };
-        Some(serve(rt, desk, &mut pass, &mut *tosser, stream))
+    /// A session of the client in a chair. One that asks to follow decisions leaves the chair, and
+    /// its session goes on elsewhere.
+    pub(crate) fn answer_client<R: Machine>(&self, rt: &R, chair: Chair) {
+        if let Some(chain) = &self.chain {
+            self.answer_slots(rt, chain, chair);
+            return;
+        }
+        match self.serve_chair(rt, chair) {
+            Some(DeskEnd::Follows(number)) => self.hand_to_followers(rt, chair, number),
+            _ => self.admission.leave_chair(rt, chair),
+        }
     }
 
-    /// Answers the client in a chair; none where there is no memory for its pass, or its socket
-    /// can't be set up.
-    fn serve_chair<R: Machine>(&self, rt: &R, chair: Chair) -> Option<DeskEnd> {
-        let copy = self.admission.sockets.lock(rt).copy(chair.socket)?;
-        let Ok(stream) = client_stream(copy) else {
-            return None;
-        };
-        let mut client = Client {
-            rt,
-            shared: self,
-            stream,
-            slot: chair.slot.slot(),
-        };
-        self.serve_over(rt, chair.slot.slot(), &mut client)
+    /// A session of the client in a chair of a member of a chain.
+    fn answer_slots<R: Machine>(&self, rt: &R, chain: &InChain, chair: Chair) {
+        match self.serve_slots(rt, chain, &chair) {
+            Some((Away::To(epoch), said)) => self.hand_over(rt, chain, chair, (Some(epoch), said)),
+            Some((Away::ToNewest, said)) => self.hand_over(rt, chain, chair, (None, said)),
+            Some((Away::Follows(number), _)) => match self.follow_in(rt, chain, &chair, number) {
+                Some(onward) => self.hand_over(rt, chain, chair, onward),
+                None => self.admission.leave_chair(rt, chair),
+            },
+            None => self.admission.leave_chair(rt, chair),
+        }
     }
 
     /// Answers the client in a chair of a member of a chain, until it ends or leaves for another
@@ -130,32 +118,6 @@ impl<D: Disk, J: Life> Shared<D, J> {
         let mut client = SlotStream::new(rt, self, chain, chair, copy);
         let _end = self.serve_over(rt, chair.slot.slot(), &mut client);
         client.leaves()
-    }
-
-    /// A session of the client in a chair of a member of a chain.
-    fn answer_slots<R: Machine>(&self, rt: &R, chain: &InChain, chair: Chair) {
-        match self.serve_slots(rt, chain, &chair) {
-            Some((Away::To(epoch), said)) => self.hand_over(rt, chain, chair, (Some(epoch), said)),
-            Some((Away::ToNewest, said)) => self.hand_over(rt, chain, chair, (None, said)),
-            Some((Away::Follows(number), _)) => match self.follow_in(rt, chain, &chair, number) {
-                Some(onward) => self.hand_over(rt, chain, chair, onward),
-                None => self.admission.leave_chair(rt, chair),
-            },
-            None => self.admission.leave_chair(rt, chair),
-        }
-    }
-
-    /// Tells the client in a chair decisions from that number on, and returns the line by which it
-    /// goes on in another epoch.
-    fn follow_in<R: Machine>(
-        &self,
-        rt: &R,
-        chain: &InChain,
-        chair: &Chair,
-        number: u64,
-    ) -> Option<(Option<u64>, Said)> {
-        let mut socket = self.admission.sockets.lock(rt).copy(chair.socket)?;
-        follow(rt, self, chain, &mut socket, number)
     }
 
     /// Hands the client in a chair to another epoch, or to the newest, with what was read of it.
@@ -177,17 +139,55 @@ impl<D: Disk, J: Life> Shared<D, J> {
         }
     }
 
-    /// A session of the client in a chair. One that asks to follow decisions leaves the chair, and
-    /// its session goes on elsewhere.
-    pub(crate) fn answer_client<R: Machine>(&self, rt: &R, chair: Chair) {
-        if let Some(chain) = &self.chain {
-            self.answer_slots(rt, chain, chair);
-            return;
-        }
-        match self.serve_chair(rt, chair) {
-            Some(DeskEnd::Follows(number)) => self.hand_to_followers(rt, chair, number),
-            _ => self.admission.leave_chair(rt, chair),
-        }
+    /// Tells the client in a chair decisions from that number on, and returns the line by which it
+    /// goes on in another epoch.
+    fn follow_in<R: Machine>(
+        &self,
+        rt: &R,
+        chain: &InChain,
+        chair: &Chair,
+        number: u64,
+    ) -> Option<(Option<u64>, Said)> {
+        let mut socket = self.admission.sockets.lock(rt).copy(chair.socket)?;
+        follow(rt, self, chain, &mut socket, number)
+    }
+
+    /// Answers the client in a chair; none where there is no memory for its pass, or its socket
+    /// can't be set up.
+    fn serve_chair<R: Machine>(&self, rt: &R, chair: Chair) -> Option<DeskEnd> {
+        let copy = self.admission.sockets.lock(rt).copy(chair.socket)?;
+        let Ok(stream) = client_stream(copy) else {
+            return None;
+        };
+        let mut client = Client {
+            rt,
+            shared: self,
+            stream,
+            slot: chair.slot.slot(),
+        };
+        self.serve_over(rt, chair.slot.slot(), &mut client)
+    }
+
+    /// Answers the client in a chair over its stream; none where there is no memory for its pass.
+    fn serve_over<S: Stream, R: Machine>(
+        &self,
+        rt: &R,
+        slot: u8,
+        stream: &mut S,
+    ) -> Option<DeskEnd> {
+        let tosser = self.tossers.desk.get(usize::from(slot))?;
+        let board: &Board = self.hub.board();
+        let Ok(mut pass) = board.pass() else {
+            return None;
+        };
+        // Where another client is being closed for this one, its session has the tosser until it
+        // ends.
+        let mut tosser = tosser.lock(rt);
+        let desk = Desk {
+            hub: &self.hub,
+            turns: &self.turns,
+        };
+        Some(serve(rt, desk, &mut pass, &mut *tosser, stream))
     }
 }
 

@@ -21,20 +21,6 @@ pub struct InChain {
     standing: Standing,
 }
 
-/// The standing of an epoch's member.
-#[derive(Drop)]
-struct Standing {
-    /// The progress that was reported last.
-    reported: AtomicU64,
-    /// Nothing happens in the epoch, and nothing of it is open here.
-    rests: AtomicBool,
-    /// The members whose links are read, a bit for each.
-    links: AtomicU64,
-    /// The links of n - t members have been read at once, so that the member has heard what is left
-    /// to hear.
-    was_linked: AtomicBool,
-}
-
 impl InChain {
     /// The epoch of that number, whose links and clients come in at these doors.
     pub fn new(board: Arc<Switchboard>, epoch: u64, doors: Doors) -> InChain {
@@ -84,20 +70,21 @@ impl InChain {
     }
 }
 
-impl<D: Disk, J: Life> Shared<D, J> {
-    /// Returns `true` if a question was proposed to this member and isn't decided.
-    fn is_undone<R: Machine>(&self, rt: &R) -> bool {
-        for question in 0..self.hub.header().size().questions() {
-            if let Some(QuestionState::Open { .. } | QuestionState::Spent) = self
-                .hub
-                .state(rt, question)
-            {
-                return true;
-            }
-        }
-        false
-    }
+/// The standing of an epoch's member.
+#[derive(Drop)]
+struct Standing {
+    /// The progress that was reported last.
+    reported: AtomicU64,
+    /// Nothing happens in the epoch, and nothing of it is open here.
+    rests: AtomicBool,
+    /// The members whose links are read, a bit for each.
+    links: AtomicU64,
+    /// The links of n - t members have been read at once, so that the member has heard what is left
+    /// to hear.
+    was_linked: AtomicBool,
+}
 
+impl<D: Disk, J: Life> Shared<D, J> {
     /// Reports how the member stands, if it is one of a chain. Its questions are gone through only
     /// while nothing happens and a newer epoch is there.
     pub(crate) fn report<R: Machine>(&self, rt: &R) {
@@ -121,6 +108,19 @@ impl<D: Disk, J: Life> Shared<D, J> {
         };
         let rests = chain.board.report(rt, chain.epoch, report);
         chain.standing.rests.store(rests, Ordering::SeqCst);
+    }
+
+    /// Returns `true` if a question was proposed to this member and isn't decided.
+    fn is_undone<R: Machine>(&self, rt: &R) -> bool {
+        for question in 0..self.hub.header().size().questions() {
+            if let Some(QuestionState::Open { .. } | QuestionState::Spent) = self
+                .hub
+                .state(rt, question)
+            {
+                return true;
+            }
+        }
+        false
     }
 
     /// A link of that member is read from now on, or isn't any more.

@@ -51,48 +51,6 @@ pub enum LogEvent {
     End,
 }
 
-/// The name of what is wrong with bytes that begin no frame.
-fn fault_text(fault: WireFault) -> &'static str
-    ensures { result.now ≡ fault_text fault }
-{
-    match fault {
-        WireFault::BadLength => "broken BadLength",
-        WireFault::BadType => "broken BadType",
-        WireFault::BadKind => "broken BadKind",
-        WireFault::BadPlace => "broken BadPlace",
-        WireFault::BadValue => "broken BadValue",
-        WireFault::BadHello => "broken BadHello",
-        WireFault::BadCount => "broken BadCount",
-    }
-}
-
-/// Returns what the line of a link that comes up says of its version. Of the newer one it says
-/// nothing.
-fn version_text(version: Version) -> &'static str
-    ensures { result.now ≡ version_text version }
-{
-    match version {
-        Version::One => " version 1",
-        Version::Two => "",
-    }
-}
-
-/// The word for what ended a link.
-fn cause_text(end: LinkEnd) -> &'static str
-    ensures { result.now ≡ cause_text end }
-{
-    match end {
-        LinkEnd::Ended => "ended",
-        LinkEnd::Lost => "lost",
-        LinkEnd::Broken(fault) => fault_text(fault),
-        LinkEnd::OutOfOrder => "out-of-order",
-        LinkEnd::Stranger => "stranger",
-        LinkEnd::Busy => "busy",
-        LinkEnd::Stopped => "stopped",
-        LinkEnd::Memory => "memory",
-    }
-}
-
 impl fmt::Display for LogEvent {
     ghost use Rattle.std.specs.Prelude.{Some};
     ghost use Rattle.running.specs.Events.{log_text};
@@ -130,6 +88,17 @@ impl fmt::Display for LogEvent {
     }
 }
 
+/// Returns what the line of a link that comes up says of its version. Of the newer one it says
+/// nothing.
+fn version_text(version: Version) -> &'static str
+    ensures { result.now ≡ version_text version }
+{
+    match version {
+        Version::One => " version 1",
+        Version::Two => "",
+    }
+}
+
 /// A client that was closed for another.
 #[derive(Clone, Copy)]
 struct Closed {
@@ -156,24 +125,6 @@ impl fmt::Display for Closed {
                 "client at place {slot} closed for another: silent for {silent} s"
             ),
         }
-    }
-}
-
-/// The number of times that something came, as it stands after it; nothing if it came once.
-#[derive(Clone, Copy)]
-struct Times(u64);
-
-impl fmt::Display for Times {
-    ghost use Rattle.std.specs.Prelude.{Some};
-    ghost use Rattle.running.specs.Events.{times_text};
-
-    ghost output = { λ times. Some (times_text times.0) };
-
-    fn fmt<W: fmt::Write>(&self, f: &mut fmt::Formatter<W>) -> fmt::Result {
-        if self.0 > 1 {
-            return write!(f, ", x{}", self.0);
-        }
-        Ok(())
     }
 }
 
@@ -210,5 +161,54 @@ impl fmt::Display for RefusalCount {
                 )
             }
         }
+    }
+}
+
+/// The number of times that something came, as it stands after it; nothing if it came once.
+#[derive(Clone, Copy)]
+struct Times(u64);
+
+impl fmt::Display for Times {
+    ghost use Rattle.std.specs.Prelude.{Some};
+    ghost use Rattle.running.specs.Events.{times_text};
+
+    ghost output = { λ times. Some (times_text times.0) };
+
+    fn fmt<W: fmt::Write>(&self, f: &mut fmt::Formatter<W>) -> fmt::Result {
+        if self.0 > 1 {
+            return write!(f, ", x{}", self.0);
+        }
+        Ok(())
+    }
+}
+
+/// The word for what ended a link.
+fn cause_text(end: LinkEnd) -> &'static str
+    ensures { result.now ≡ cause_text end }
+{
+    match end {
+        LinkEnd::Ended => "ended",
+        LinkEnd::Lost => "lost",
+        LinkEnd::Broken(fault) => fault_text(fault),
+        LinkEnd::OutOfOrder => "out-of-order",
+        LinkEnd::Stranger => "stranger",
+        LinkEnd::Busy => "busy",
+        LinkEnd::Stopped => "stopped",
+        LinkEnd::Memory => "memory",
+    }
+}
+
+/// The name of what is wrong with bytes that begin no frame.
+fn fault_text(fault: WireFault) -> &'static str
+    ensures { result.now ≡ fault_text fault }
+{
+    match fault {
+        WireFault::BadLength => "broken BadLength",
+        WireFault::BadType => "broken BadType",
+        WireFault::BadKind => "broken BadKind",
+        WireFault::BadPlace => "broken BadPlace",
+        WireFault::BadValue => "broken BadValue",
+        WireFault::BadHello => "broken BadHello",
+        WireFault::BadCount => "broken BadCount",
     }
 }

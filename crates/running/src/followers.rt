@@ -119,26 +119,6 @@ impl FollowerSocket {
     }
 }
 
-/// Returns `true` if a call that failed so may be made again.
-pub(crate) fn is_passing(kind: ErrorKind) -> bool {
-    matches!(kind, ErrorKind::WouldBlock | ErrorKind::Interrupted)
-}
-
-/// Writes some of the bytes at once, and returns how many.
-fn write_now(socket: &mut TcpStream, bytes: &[u8]) -> Result<usize, StreamFault>
-    ensures { IfOk result (λ count. count ≤ length bytes.now) }
-{
-    match socket.write(bytes) {
-        Ok(count) => Ok(count),
-        Err(error) => {
-            if is_passing(error.kind()) {
-                return Ok(0);
-            }
-            Err(StreamFault)
-        }
-    }
-}
-
 impl Outlet for FollowerSocket {
     ghost written = { λ socket. socket.taken.value };
 
@@ -159,6 +139,26 @@ impl Outlet for FollowerSocket {
             Err(error) => !is_passing(error.kind()),
         }
     }
+}
+
+/// Writes some of the bytes at once, and returns how many.
+fn write_now(socket: &mut TcpStream, bytes: &[u8]) -> Result<usize, StreamFault>
+    ensures { IfOk result (λ count. count ≤ length bytes.now) }
+{
+    match socket.write(bytes) {
+        Ok(count) => Ok(count),
+        Err(error) => {
+            if is_passing(error.kind()) {
+                return Ok(0);
+            }
+            Err(StreamFault)
+        }
+    }
+}
+
+/// Returns `true` if a call that failed so may be made again.
+pub(crate) fn is_passing(kind: ErrorKind) -> bool {
+    matches!(kind, ErrorKind::WouldBlock | ErrorKind::Interrupted)
 }
 
 /// A follower with its socket.
@@ -224,14 +224,16 @@ impl Followers {
 }
 
 impl<D: Disk, J: Life> Shared<D, J> {
-    /// Ends a follower's session. That it took nothing for long is to be told.
-    fn end_following<R: Machine>(&self, rt: &R, seat: FollowerSeat, end: FollowEnd) {
-        if end == FollowEnd::Stalled {
-            self.log_refusal(rt, Refusal::Stalled(seat.host()), None);
+    /// Hands the client in a chair on, who follows decisions from that number on. The chair's place
+    /// is free when this returns.
+    pub(crate) fn hand_to_followers<R: Machine>(&self, rt: &R, chair: Chair, number: u64) {
+        let taken = self.admission.sockets.lock(rt).take(chair.socket);
+        if let Some(socket) = taken {
+            if let Some(seat) = self.follower_at(rt, socket, number) {
+                self.enlist(rt, seat);
+            }
         }
-        shut(&seat.socket.socket);
-        let mut followers = self.followers.lock(rt);
-        followers.crowd.leave();
+        self.admission.leave_slot(rt, chair.slot.slot());
     }
 
     /// The seat of the client at this socket, which follows decisions from that number on. Where
@@ -260,20 +262,6 @@ impl<D: Disk, J: Life> Shared<D, J> {
         }
     }
 
-    /// Tells one that came all that there is, as far as it takes that at once, and returns how many
-    /// decisions there were.
-    fn catch_up<R: Machine>(&self, rt: &R, seat: &mut FollowerSeat) -> Result<u64, FollowEnd> {
-        for _ in rt.forever() {
-            let decided = self.hub.decided();
-            match seat.tell(rt, self) {
-                Ok(Telling::Lines) => {}
-                Ok(_) => return Ok(decided),
-                Err(end) => return Err(end),
-            }
-        }
-        unreachable!()
-    }
-
     /// Hands one that came to the thread that tells followers, once it was told what there is.
     fn enlist<R: Machine>(&self, rt: &R, mut seat: FollowerSeat) {
         match self.catch_up(rt, &mut seat) {
@@ -290,67 +278,16 @@ impl<D: Disk, J: Life> Shared<D, J> {
         }
     }
 
-    /// Hands the client in a chair on, who follows decisions from that number on. The chair's place
-    /// is free when this returns.
-    pub(crate) fn hand_to_followers<R: Machine>(&self, rt: &R, chair: Chair, number: u64) {
-        let taken = self.admission.sockets.lock(rt).take(chair.socket);
-        if let Some(socket) = taken {
-            if let Some(seat) = self.follower_at(rt, socket, number) {
-                self.enlist(rt, seat);
-            }
-        }
-        self.admission.leave_slot(rt, chair.slot.slot());
-    }
-
-    /// Tells the follower at a place what there is; none if its session ended: then another has the
-    /// place.
-    fn tell_follower<R: Machine>(
-        &self,
-        rt: &R,
-        seats: &mut Vec<FollowerSeat>,
-        at: usize,
-    ) -> Option<Telling> {
-        if at >= seats.len() {
-            return None;
-        }
-        match seats[at].tell(rt, self) {
-            Ok(telling) => Some(telling),
-            Err(end) => {
-                let seat = seats.swap_remove(at);
-                self.end_following(rt, seat, end);
-                None
-            }
-        }
-    }
-
-    /// Tells each follower what there is.
-    fn tell_followers<R: Machine>(&self, rt: &R, seats: &mut Vec<FollowerSeat>) -> Round {
-        let mut round = Round {
-            told: false,
-            waits: false,
-        };
-        let mut at = 0usize;
-        for _ in 0..seats.len() {
-            if let Some(telling) = self.tell_follower(rt, seats, at) {
-                round = round.with(telling);
-                at = at.saturating_add(1);
-            }
-        }
-        round
-    }
-
-    /// Takes over those that came, and waits for one while nobody follows; false at the end.
-    fn take_over_followers<R: Machine>(&self, rt: &R, seats: &mut Vec<FollowerSeat>) -> bool {
-        let mut followers = self.followers.lock(rt);
+    /// Tells one that came all that there is, as far as it takes that at once, and returns how many
+    /// decisions there were.
+    fn catch_up<R: Machine>(&self, rt: &R, seat: &mut FollowerSeat) -> Result<u64, FollowEnd> {
         for _ in rt.forever() {
-            if self.is_closing() {
-                return false;
+            let decided = self.hub.decided();
+            match seat.tell(rt, self) {
+                Ok(Telling::Lines) => {}
+                Ok(_) => return Ok(decided),
+                Err(end) => return Err(end),
             }
-            followers.take_over(seats);
-            if !seats.is_empty() {
-                return true;
-            }
-            followers = self.followed.wait(rt, followers);
         }
         unreachable!()
     }
@@ -375,6 +312,93 @@ impl<D: Disk, J: Life> Shared<D, J> {
         }
         unreachable!()
     }
+
+    /// Takes over those that came, and waits for one while nobody follows; false at the end.
+    fn take_over_followers<R: Machine>(&self, rt: &R, seats: &mut Vec<FollowerSeat>) -> bool {
+        let mut followers = self.followers.lock(rt);
+        for _ in rt.forever() {
+            if self.is_closing() {
+                return false;
+            }
+            followers.take_over(seats);
+            if !seats.is_empty() {
+                return true;
+            }
+            followers = self.followed.wait(rt, followers);
+        }
+        unreachable!()
+    }
+
+    /// Tells each follower what there is.
+    fn tell_followers<R: Machine>(&self, rt: &R, seats: &mut Vec<FollowerSeat>) -> Round {
+        let mut round = Round {
+            told: false,
+            waits: false,
+        };
+        let mut at = 0usize;
+        for _ in 0..seats.len() {
+            if let Some(telling) = self.tell_follower(rt, seats, at) {
+                round = round.with(telling);
+                at = at.saturating_add(1);
+            }
+        }
+        round
+    }
+
+    /// Tells the follower at a place what there is; none if its session ended: then another has the
+    /// place.
+    fn tell_follower<R: Machine>(
+        &self,
+        rt: &R,
+        seats: &mut Vec<FollowerSeat>,
+        at: usize,
+    ) -> Option<Telling> {
+        if at >= seats.len() {
+            return None;
+        }
+        match seats[at].tell(rt, self) {
+            Ok(telling) => Some(telling),
+            Err(end) => {
+                let seat = seats.swap_remove(at);
+                self.end_following(rt, seat, end);
+                None
+            }
+        }
+    }
+
+    /// Ends a follower's session. That it took nothing for long is to be told.
+    fn end_following<R: Machine>(&self, rt: &R, seat: FollowerSeat, end: FollowEnd) {
+        if end == FollowEnd::Stalled {
+            self.log_refusal(rt, Refusal::Stalled(seat.host()), None);
+        }
+        shut(&seat.socket.socket);
+        let mut followers = self.followers.lock(rt);
+        followers.crowd.leave();
+    }
+}
+
+/// The rest behind a round that began at that time and ends now: three times as long as it took, so
+/// that followers take a quarter of a processor at most.
+fn rest_behind<R: Machine>(rt: &R, began: Option<Instant>) -> Duration {
+    let longest = Duration::from_millis(ROUND_PAUSE);
+    let (Some(began), Some(ended)) = (began, time_of(rt)) else {
+        return longest;
+    };
+    match ended
+        .saturating_duration_since(began)
+        .checked_mul(ROUND_TIMES)
+    {
+        Some(rest) => rest.min(longest),
+        None => longest,
+    }
+}
+
+/// The time, if the clock tells it.
+fn time_of<R: Machine>(rt: &R) -> Option<Instant> {
+    match Instant::now(rt) {
+        Ok(now) => Some(now),
+        Err(_) => None,
+    }
 }
 
 /// The result of a round, in which each follower was told once.
@@ -397,29 +421,5 @@ impl Round {
                 ..self
             },
         }
-    }
-}
-
-/// The time, if the clock tells it.
-fn time_of<R: Machine>(rt: &R) -> Option<Instant> {
-    match Instant::now(rt) {
-        Ok(now) => Some(now),
-        Err(_) => None,
-    }
-}
-
-/// The rest behind a round that began at that time and ends now: three times as long as it took, so
-/// that followers take a quarter of a processor at most.
-fn rest_behind<R: Machine>(rt: &R, began: Option<Instant>) -> Duration {
-    let longest = Duration::from_millis(ROUND_PAUSE);
-    let (Some(began), Some(ended)) = (began, time_of(rt)) else {
-        return longest;
-    };
-    match ended
-        .saturating_duration_since(began)
-        .checked_mul(ROUND_TIMES)
-    {
-        Some(rest) => rest.min(longest),
-        None => longest,
     }
 }

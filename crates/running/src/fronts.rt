@@ -1,4 +1,4 @@
-//! The doors of a process that runs a chain: begin at `run_fronts`, last.
+//! The doors of a process that runs a chain: begin at `run_fronts`.
 
 use crate::callers::Claim;
 use crate::doors::{Door, Listener};
@@ -30,13 +30,77 @@ pub struct Fronts {
     pub hosts: Option<Vec<IpAddr>>,
 }
 
-/// A link whose Hello is awaited.
-#[derive(Drop)]
-struct Greeter {
-    number: u64,
-    host: IpAddr,
-    /// A copy of its socket, by which the end shuts it down.
-    socket: TcpStream,
+/// Takes links and clients of a chain in, and hands each to its epoch, until the operator ends it.
+/// The operator runs the epochs.
+///
+/// # Errors
+///
+/// [`RunFault::Listen`] where one of the listeners can't be had, [`RunFault::Memory`] where a
+/// thread can't, and what the operator says.
+pub fn run_fronts<O: Operator, R: Machine>(
+    rt: &R,
+    board: &Switchboard,
+    fronts: Fronts,
+    operator: &mut O,
+) -> Result<(), RunFault> {
+    let Fronts {
+        links,
+        desk,
+        local,
+        hosts,
+    } = fronts;
+    let opened = FrontDoors {
+        links: listen(rt, links, operator)?,
+        desk: listen(rt, desk, operator)?,
+        local: local_door(local)?,
+        hosts,
+    };
+    let doors = &opened;
+    thread::scope(thread::scope_env(), rt, |scope| -> Result<(), RunFault> {
+        let (listener, hosts) = (&doors.links.listener, &doors.hosts);
+        if scope
+            .spawn(move || accept_links(rt, board, listener, hosts))
+            .is_err()
+        {
+            return Err(RunFault::Memory);
+        }
+        run_desk(rt, board, operator, doors)
+    })
+}
+
+/// Takes links in until the end. A thread of its own reads the Hello of each, at most 64 at once.
+fn accept_links<R: Machine>(
+    rt: &R,
+    board: &Switchboard,
+    listener: &Listener,
+    hosts: &Option<Vec<IpAddr>>,
+) {
+    let greeters = Mutex::new(Greeters {
+        waiting: Vec::new(board.alloc()),
+        next: 0,
+    });
+    let (greeters, share) = (&greeters, share_of(hosts));
+    thread::scope(thread::scope_env(), rt, |scope| {
+        for _ in 0..u64::MAX {
+            let Some(Arrival { socket, host, .. }) = next(rt, board, listener) else {
+                break;
+            };
+            if !is_let_in(hosts, host) {
+                continue;
+            }
+            let Some(number) = greeters.lock(rt).enter(host, &socket, share) else {
+                continue;
+            };
+            let greets = move || {
+                hand_on(rt, board, hosts, socket, host);
+                greeters.lock(rt).leave(number);
+            };
+            if scope.spawn(greets).is_err() {
+                greeters.lock(rt).leave(number);
+            }
+        }
+        greeters.lock(rt).shut();
+    });
 }
 
 /// The links whose Hello is awaited. Each has a number of its own.
@@ -87,6 +151,15 @@ impl Greeters {
     }
 }
 
+/// A link whose Hello is awaited.
+#[derive(Drop)]
+struct Greeter {
+    number: u64,
+    host: IpAddr,
+    /// A copy of its socket, by which the end shuts it down.
+    socket: TcpStream,
+}
+
 /// Returns how many links a host may have that are to greet: an equal share for each of the
 /// members' hosts.
 fn share_of(hosts: &Option<Vec<IpAddr>>) -> usize {
@@ -102,10 +175,10 @@ fn share_of(hosts: &Option<Vec<IpAddr>>) -> usize {
     GREETINGS as usize / distinct.max(1)
 }
 
-/// Returns `true` if that member's links are taken from this host.
-fn may_greet(hosts: &Option<Vec<IpAddr>>, member: u8, host: IpAddr) -> bool {
+/// Returns `true` if links are taken from this host.
+fn is_let_in(hosts: &Option<Vec<IpAddr>>, host: IpAddr) -> bool {
     match hosts {
-        Some(hosts) => hosts.get(usize::from(member)) == Some(&host),
+        Some(hosts) => hosts.iter().any(|one| *one == host),
         None => true,
     }
 }
@@ -141,72 +214,31 @@ fn hand_on<R: Machine>(
     board.hand_link(rt, claim.cluster, claim.from, arrival);
 }
 
-/// Returns `true` if links are taken from this host.
-fn is_let_in(hosts: &Option<Vec<IpAddr>>, host: IpAddr) -> bool {
+/// Returns `true` if that member's links are taken from this host.
+fn may_greet(hosts: &Option<Vec<IpAddr>>, member: u8, host: IpAddr) -> bool {
     match hosts {
-        Some(hosts) => hosts.iter().any(|one| *one == host),
+        Some(hosts) => hosts.get(usize::from(member)) == Some(&host),
         None => true,
     }
 }
 
-/// Returns the next connection; none at the end.
-fn next<R: Machine>(rt: &R, board: &Switchboard, listener: &Listener) -> Option<Arrival> {
-    for _ in rt.forever() {
-        if board.is_ended() {
-            return None;
-        }
-        match listener.accept(rt) {
-            Ok(arrival) => return Some(arrival),
-            // The listener was shut down, or the system has no descriptor left.
-            Err(_) => thread::sleep(rt, Duration::from_millis(ACCEPT_PAUSE)),
-        }
-    }
-    unreachable!()
-}
-
-/// Takes links in until the end. A thread of its own reads the Hello of each, at most 64 at once.
-fn accept_links<R: Machine>(
+/// Takes clients in until the operator ends the chain.
+fn run_desk<O: Operator, R: Machine>(
     rt: &R,
     board: &Switchboard,
-    listener: &Listener,
-    hosts: &Option<Vec<IpAddr>>,
-) {
-    let greeters = Mutex::new(Greeters {
-        waiting: Vec::new(board.alloc()),
-        next: 0,
-    });
-    let (greeters, share) = (&greeters, share_of(hosts));
-    thread::scope(thread::scope_env(), rt, |scope| {
-        for _ in 0..u64::MAX {
-            let Some(Arrival { socket, host, .. }) = next(rt, board, listener) else {
-                break;
-            };
-            if !is_let_in(hosts, host) {
-                continue;
-            }
-            let Some(number) = greeters.lock(rt).enter(host, &socket, share) else {
-                continue;
-            };
-            let greets = move || {
-                hand_on(rt, board, hosts, socket, host);
-                greeters.lock(rt).leave(number);
-            };
-            if scope.spawn(greets).is_err() {
-                greeters.lock(rt).leave(number);
-            }
+    operator: &mut O,
+    doors: &FrontDoors,
+) -> Result<(), RunFault> {
+    thread::scope(thread::scope_env(), rt, |scope| -> Result<(), RunFault> {
+        let listener = &doors.desk.listener;
+        if scope
+            .spawn(move || accept_clients(rt, board, listener))
+            .is_err()
+        {
+            return Err(RunFault::Memory);
         }
-        greeters.lock(rt).shut();
-    });
-}
-
-/// Takes clients in until the end, and hands each to the newest epoch.
-fn accept_clients<R: Machine>(rt: &R, board: &Switchboard, listener: &Listener) {
-    for _ in 0..u64::MAX {
-        let Some(arrival) = next(rt, board, listener) else {
-            return;
-        };
-        board.hand_client(rt, None, arrival);
-    }
+        run_local(rt, board, operator, doors)
+    })
 }
 
 /// Takes clients of this machine in, if they have a door, until the operator ends the chain.
@@ -237,25 +269,6 @@ fn run_local<O: Operator, R: Machine>(
     })
 }
 
-/// Takes clients in until the operator ends the chain.
-fn run_desk<O: Operator, R: Machine>(
-    rt: &R,
-    board: &Switchboard,
-    operator: &mut O,
-    doors: &FrontDoors,
-) -> Result<(), RunFault> {
-    thread::scope(thread::scope_env(), rt, |scope| -> Result<(), RunFault> {
-        let listener = &doors.desk.listener;
-        if scope
-            .spawn(move || accept_clients(rt, board, listener))
-            .is_err()
-        {
-            return Err(RunFault::Memory);
-        }
-        run_local(rt, board, operator, doors)
-    })
-}
-
 /// The doors of the process.
 #[derive(Drop)]
 struct FrontDoors {
@@ -276,40 +289,27 @@ impl FrontDoors {
     }
 }
 
-/// Takes links and clients of a chain in, and hands each to its epoch, until the operator ends it.
-/// The operator runs the epochs.
-///
-/// # Errors
-///
-/// [`RunFault::Listen`] where one of the listeners can't be had, [`RunFault::Memory`] where a
-/// thread can't, and what the operator says.
-pub fn run_fronts<O: Operator, R: Machine>(
-    rt: &R,
-    board: &Switchboard,
-    fronts: Fronts,
-    operator: &mut O,
-) -> Result<(), RunFault> {
-    let Fronts {
-        links,
-        desk,
-        local,
-        hosts,
-    } = fronts;
-    let opened = FrontDoors {
-        links: listen(rt, links, operator)?,
-        desk: listen(rt, desk, operator)?,
-        local: local_door(local)?,
-        hosts,
-    };
-    let doors = &opened;
-    thread::scope(thread::scope_env(), rt, |scope| -> Result<(), RunFault> {
-        let (listener, hosts) = (&doors.links.listener, &doors.hosts);
-        if scope
-            .spawn(move || accept_links(rt, board, listener, hosts))
-            .is_err()
-        {
-            return Err(RunFault::Memory);
+/// Takes clients in until the end, and hands each to the newest epoch.
+fn accept_clients<R: Machine>(rt: &R, board: &Switchboard, listener: &Listener) {
+    for _ in 0..u64::MAX {
+        let Some(arrival) = next(rt, board, listener) else {
+            return;
+        };
+        board.hand_client(rt, None, arrival);
+    }
+}
+
+/// Returns the next connection; none at the end.
+fn next<R: Machine>(rt: &R, board: &Switchboard, listener: &Listener) -> Option<Arrival> {
+    for _ in rt.forever() {
+        if board.is_ended() {
+            return None;
         }
-        run_desk(rt, board, operator, doors)
-    })
+        match listener.accept(rt) {
+            Ok(arrival) => return Some(arrival),
+            // The listener was shut down, or the system has no descriptor left.
+            Err(_) => thread::sleep(rt, Duration::from_millis(ACCEPT_PAUSE)),
+        }
+    }
+    unreachable!()
 }

@@ -50,6 +50,19 @@ impl<J: Life> Peers<J> {
         self.addresses.get(usize::from(peer)).copied()
     }
 
+    /// Returns how many of so many places a host may take: an equal share for each host of the
+    /// members, so that what one does never takes another's. From any host there is one share for
+    /// all.
+    pub(crate) fn share_of(&self, places: usize) -> usize {
+        let mut hosts = 0usize;
+        for (member, address) in self.addresses.iter().enumerate() {
+            if self.first_of(address.ip()) == u8::try_from(member).ok() {
+                hosts = hosts.saturating_add(1);
+            }
+        }
+        places / hosts.max(1)
+    }
+
     /// The first member of the host, which stands for all that comes from there; none where no
     /// member is of it. From any host it is member 0.
     pub(crate) fn first_of(&self, host: IpAddr) -> Option<u8> {
@@ -65,19 +78,6 @@ impl<J: Life> Peers<J> {
             None => None,
         }
     }
-
-    /// Returns how many of so many places a host may take: an equal share for each host of the
-    /// members, so that what one does never takes another's. From any host there is one share for
-    /// all.
-    pub(crate) fn share_of(&self, places: usize) -> usize {
-        let mut hosts = 0usize;
-        for (member, address) in self.addresses.iter().enumerate() {
-            if self.first_of(address.ip()) == u8::try_from(member).ok() {
-                hosts = hosts.saturating_add(1);
-            }
-        }
-        places / hosts.max(1)
-    }
 }
 
 /// A member whose link comes from a host that may speak for it, by the peers that the run was
@@ -88,26 +88,6 @@ pub(crate) struct Sender<J: Life> {
     host: IpAddr,
     of: PhantomData<J>,
     ghost may_speak: { MaySpeak J.addresses J.hosts peer host },
-}
-
-/// The host of a member's address, if it has one.
-fn host_of(addresses: &[SocketAddr], peer: u8) -> Option<IpAddr>
-    ensures { result ≡ option_map socket_ip (slice_get addresses.now peer) }
-{
-    match addresses.get(usize::from(peer)) {
-        Some(address) => Some(address.ip()),
-        None => None,
-    }
-}
-
-/// Returns `true` if a link that names this member in its Hello may come from the host.
-pub(crate) fn may_speak<J: Life>(peers: &Peers<J>, peer: u8, host: IpAddr) -> bool
-    ensures { IsTrue result ↔ MaySpeak J.addresses J.hosts peer host }
-{
-    match peers.hosts {
-        Hosts::OfMembers => host_of(&peers.addresses, peer) == Some(host),
-        Hosts::Any => true,
-    }
 }
 
 impl<J: Life> Sender<J> {
@@ -142,5 +122,25 @@ impl<J: Life> Sender<J> {
         ensures { result ≡ self.now.host }
     {
         self.host
+    }
+}
+
+/// Returns `true` if a link that names this member in its Hello may come from the host.
+pub(crate) fn may_speak<J: Life>(peers: &Peers<J>, peer: u8, host: IpAddr) -> bool
+    ensures { IsTrue result ↔ MaySpeak J.addresses J.hosts peer host }
+{
+    match peers.hosts {
+        Hosts::OfMembers => host_of(&peers.addresses, peer) == Some(host),
+        Hosts::Any => true,
+    }
+}
+
+/// The host of a member's address, if it has one.
+fn host_of(addresses: &[SocketAddr], peer: u8) -> Option<IpAddr>
+    ensures { result ≡ option_map socket_ip (slice_get addresses.now peer) }
+{
+    match addresses.get(usize::from(peer)) {
+        Some(address) => Some(address.ip()),
+        None => None,
     }
 }

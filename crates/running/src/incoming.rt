@@ -42,17 +42,6 @@ impl Opening {
         }
     }
 
-    /// A byte more came.
-    fn push(&mut self, byte: u8)
-        ensures { (before : List ℕ) → self.old ≡ take 18 before →
-            self.new ≡ take 18 (before ++ byte ∷ []) }
-    {
-        if self.length < HELLO {
-            self.bytes[self.length] = byte;
-            self.length += 1;
-        }
-    }
-
     /// These bytes came too.
     fn extend(&mut self, bytes: &[u8])
         ensures { (before : List ℕ) → self.old ≡ take 18 before →
@@ -63,6 +52,17 @@ impl Opening {
         }
         for byte in bytes {
             self.push(*byte);
+        }
+    }
+
+    /// A byte more came.
+    fn push(&mut self, byte: u8)
+        ensures { (before : List ℕ) → self.old ≡ take 18 before →
+            self.new ≡ take 18 (before ++ byte ∷ []) }
+    {
+        if self.length < HELLO {
+            self.bytes[self.length] = byte;
+            self.length += 1;
         }
     }
 

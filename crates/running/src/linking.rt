@@ -1,4 +1,4 @@
-//! The threads of links: begin at `accept_links` and `serve_guest`, last, and at `dial_on`.
+//! The threads of links: begin at `accept_links` and `serve_guest`, and at `dial_on`.
 //!
 //! The socket of a session is in `sockets` from `enter_to` or `enter_to_greet` to `leave`, which
 //! shuts it down. `dial_once` and `serve_guest` call that as their last step, however the session
@@ -39,25 +39,76 @@ use std::time::Duration;
 use wire::Version;
 
 impl<D: Disk, J: Life> Shared<D, J> {
-    /// A stream over the socket of that number, whose reads give first what was read of it before.
-    fn stream_at<R: Machine>(
+    /// The link to a peer: a session, of version 2 at first, and another once it has ended, until
+    /// the end. It is dialled once a second at most, and once more where a link of the peer begins.
+    pub(crate) fn dial_on<R: Machine>(&self, rt: &R, peer: u8, address: SocketAddr) {
+        let mut choice = Choice::first();
+        for _ in rt.forever() {
+            if self.is_closing() {
+                return;
+            }
+            let second = self.clock.second(rt);
+            if self.is_to_dial(peer) {
+                if let Some(reception) = self.dial_once(
+                    rt,
+                    (peer, address),
+                    choice.version,
+                    second,
+                ) {
+                    choice = choice.after(reception);
+                }
+            }
+            self.clock.wait_to_dial(rt, &self.ending, peer, second);
+        }
+        unreachable!()
+    }
+
+    /// One session of that version of the link to a peer, which is dialled in this second of the
+    /// run, and what came of it; none where nobody listens there.
+    fn dial_once<R: Machine>(
         &self,
         rt: &R,
-        socket: usize,
-        said: Option<[u8; 18]>,
-    ) -> Option<NetStream>
-        ensures { IfSome result (λ stream. told_net stream ≡ nothing) }
-    {
-        let copy = self.admission.sockets.lock(rt).copy(socket)?;
-        let limit = Duration::from_secs(LINK_LIMIT);
-        let stream = match said {
-            Some(said) => NetStream::behind(copy, said, limit),
-            None => NetStream::with_limit(copy, limit),
-        };
-        match stream {
-            Ok(stream) => Some(stream),
-            Err(_) => None,
+        (peer, address): (u8, SocketAddr),
+        version: Version,
+        second: u64,
+    ) -> Option<Reception> {
+        let dialled = self.dialled(rt, peer, address)?;
+        let socket = self
+            .admission
+            .sockets
+            .lock(rt)
+            .enter_to(dialled, peer, second)?;
+        let reception = self.write_at(rt, peer, socket, version);
+        self.admission.sockets.lock(rt).leave(socket);
+        reception
+    }
+
+    /// Returns a new connection to a peer's address; none where nobody listens there, which is
+    /// told.
+    fn dialled<R: Machine>(&self, rt: &R, peer: u8, address: SocketAddr) -> Option<TcpStream> {
+        match TcpStream::connect_timeout(rt, &address, Duration::from_secs(DIAL_LIMIT)) {
+            Ok(dialled) => Some(dialled),
+            Err(error) => {
+                let refusal = Refusal::Unreachable(peer, DialFault::of(error.kind()));
+                self.log_refusal(rt, refusal, None);
+                None
+            }
         }
+    }
+
+    /// Writes the link to a peer over the socket of that number, and answers what came of it; none
+    /// where that is gone.
+    fn write_at<R: Machine>(
+        &self,
+        rt: &R,
+        peer: u8,
+        socket: usize,
+        version: Version,
+    ) -> Option<Reception> {
+        let stream = self.stream_at(rt, socket, None)?;
+        let limit = Duration::from_secs(WELCOME_LIMIT);
+        self.admission.sockets.lock(rt).limit_reads(socket, limit);
+        Some(self.write_told(rt, peer, stream, version))
     }
 
     /// Writes the link to a peer over the stream, and answers what came of it. That it comes up,
@@ -99,78 +150,6 @@ impl<D: Disk, J: Life> Shared<D, J> {
         reception
     }
 
-    /// Writes the link to a peer over the socket of that number, and answers what came of it; none
-    /// where that is gone.
-    fn write_at<R: Machine>(
-        &self,
-        rt: &R,
-        peer: u8,
-        socket: usize,
-        version: Version,
-    ) -> Option<Reception> {
-        let stream = self.stream_at(rt, socket, None)?;
-        let limit = Duration::from_secs(WELCOME_LIMIT);
-        self.admission.sockets.lock(rt).limit_reads(socket, limit);
-        Some(self.write_told(rt, peer, stream, version))
-    }
-
-    /// Returns a new connection to a peer's address; none where nobody listens there, which is
-    /// told.
-    fn dialled<R: Machine>(&self, rt: &R, peer: u8, address: SocketAddr) -> Option<TcpStream> {
-        match TcpStream::connect_timeout(rt, &address, Duration::from_secs(DIAL_LIMIT)) {
-            Ok(dialled) => Some(dialled),
-            Err(error) => {
-                let refusal = Refusal::Unreachable(peer, DialFault::of(error.kind()));
-                self.log_refusal(rt, refusal, None);
-                None
-            }
-        }
-    }
-
-    /// One session of that version of the link to a peer, which is dialled in this second of the
-    /// run, and what came of it; none where nobody listens there.
-    fn dial_once<R: Machine>(
-        &self,
-        rt: &R,
-        (peer, address): (u8, SocketAddr),
-        version: Version,
-        second: u64,
-    ) -> Option<Reception> {
-        let dialled = self.dialled(rt, peer, address)?;
-        let socket = self
-            .admission
-            .sockets
-            .lock(rt)
-            .enter_to(dialled, peer, second)?;
-        let reception = self.write_at(rt, peer, socket, version);
-        self.admission.sockets.lock(rt).leave(socket);
-        reception
-    }
-
-    /// The link to a peer: a session, of version 2 at first, and another once it has ended, until
-    /// the end. It is dialled once a second at most, and once more where a link of the peer begins.
-    pub(crate) fn dial_on<R: Machine>(&self, rt: &R, peer: u8, address: SocketAddr) {
-        let mut choice = Choice::first();
-        for _ in rt.forever() {
-            if self.is_closing() {
-                return;
-            }
-            let second = self.clock.second(rt);
-            if self.is_to_dial(peer) {
-                if let Some(reception) = self.dial_once(
-                    rt,
-                    (peer, address),
-                    choice.version,
-                    second,
-                ) {
-                    choice = choice.after(reception);
-                }
-            }
-            self.clock.wait_to_dial(rt, &self.ending, peer, second);
-        }
-        unreachable!()
-    }
-
     /// Returns the address at which the member of that number listens; none once the own member
     /// ends, and for a number past the members.
     pub(crate) fn address_of(&self, peer: u8) -> Option<SocketAddr> {
@@ -180,36 +159,67 @@ impl<D: Disk, J: Life> Shared<D, J> {
         self.peers.address_of(peer)
     }
 
-    /// Returns who dialled from that host, by the Hello that it said, if it said one.
-    fn caller_at(&self, host: IpAddr, stream: &Incoming) -> Option<Caller>
-        ensures { IfSome result
-            (λ caller. (claim : Claim) × (take 18 (told_net stream.now.stream).taken
-            ≡ claim_bytes claim) × (caller.member ≡ claim.from)
-            × Differs claim self.now.hub (MaySpeak J.addresses J.hosts claim.from host)
-            caller.differs) }
+    /// One session of a link from a peer.
+    pub(crate) fn serve_guest<R: Machine>(&self, rt: &R, guest: Guest) {
+        match self.stream_at(rt, guest.socket, guest.said) {
+            Some(stream) => {
+                let mut stream = Incoming::new(stream);
+                if let Err(end) = self.read_from(rt, guest, &mut stream) {
+                    let caller = self.caller_at(guest.host, &stream);
+                    self.log_refusal(rt, Refusal::From(guest.host, end), caller);
+                }
+            }
+            None => {
+                self.admission.end_greeting(rt, guest.socket);
+                self.log_refusal(rt, Refusal::From(guest.host, LinkEnd::Lost), None);
+            }
+        }
+        self.admission.sockets.lock(rt).leave(guest.socket);
+    }
+
+    /// A stream over the socket of that number, whose reads give first what was read of it before.
+    fn stream_at<R: Machine>(
+        &self,
+        rt: &R,
+        socket: usize,
+        said: Option<[u8; 18]>,
+    ) -> Option<NetStream>
+        ensures { IfSome result (λ stream. told_net stream ≡ nothing) }
     {
-        match stream.claim() {
-            Some(claim) => Some(Caller::of(&claim, &self.hub.header(), &self.peers, host)),
-            None => None,
+        let copy = self.admission.sockets.lock(rt).copy(socket)?;
+        let limit = Duration::from_secs(LINK_LIMIT);
+        let stream = match said {
+            Some(said) => NetStream::behind(copy, said, limit),
+            None => NetStream::with_limit(copy, limit),
+        };
+        match stream {
+            Ok(stream) => Some(stream),
+            Err(_) => None,
         }
     }
 
-    /// Returns who greets on the stream, from a host that may speak for that member, and with which
-    /// version; else a stranger, to whom nothing is written.
-    fn greeted(&self, guest: Guest, stream: &mut Incoming) -> Result<(Sender<J>, Version), LinkEnd>
-        ensures hello { IfOk result
-            (λ greeted. told_net stream.new.stream
-            ≡ has_read (told_net stream.old.stream)
-            (frame_bytes (hello_from self.now.hub greeted.1 greeted.0.peer))) }
-        ensures host { IfOk result (λ greeted. greeted.0.host ≡ guest.host) }
-    {
-        match greet(self.alloc, stream, &self.hub.header()) {
-            Ok((peer, version)) => match Sender::of(&self.peers, peer, guest.host) {
-                Some(sender) => Ok((sender, version)),
-                None => Err(LinkEnd::Stranger),
-            },
-            Err(end) => Err(end),
-        }
+    /// Greets the peer on the stream, and reads its link to the end; or why the link was refused.
+    /// Until it has its seat it takes one of the places of those that are to greet.
+    fn read_from<R: Machine>(
+        &self,
+        rt: &R,
+        guest: Guest,
+        stream: &mut Incoming,
+    ) -> Result<(), LinkEnd> {
+        let seated = self.seated(rt, guest, stream);
+        self.admission.end_greeting(rt, guest.socket);
+        let (seated, version) = match seated {
+            Ok(Some(seated)) => seated,
+            Ok(None) => return Ok(()),
+            Err(end) => return Err(end),
+        };
+        let Some(tosser) = self.tossers.links.get(usize::from(seated.peer())) else {
+            self.seats.put(rt, seated);
+            return Err(LinkEnd::Busy);
+        };
+        let mut tosser = tosser.lock(rt);
+        self.read_seated(rt, (seated, version), stream, &mut tosser);
+        Ok(())
     }
 
     /// Returns who greets on the stream, and with which version, and the seat of that member; none
@@ -241,6 +251,24 @@ impl<D: Disk, J: Life> Shared<D, J> {
         }
     }
 
+    /// Returns who greets on the stream, from a host that may speak for that member, and with which
+    /// version; else a stranger, to whom nothing is written.
+    fn greeted(&self, guest: Guest, stream: &mut Incoming) -> Result<(Sender<J>, Version), LinkEnd>
+        ensures hello { IfOk result
+            (λ greeted. told_net stream.new.stream
+            ≡ has_read (told_net stream.old.stream)
+            (frame_bytes (hello_from self.now.hub greeted.1 greeted.0.peer))) }
+        ensures host { IfOk result (λ greeted. greeted.0.host ≡ guest.host) }
+    {
+        match greet(self.alloc, stream, &self.hub.header()) {
+            Ok((peer, version)) => match Sender::of(&self.peers, peer, guest.host) {
+                Some(sender) => Ok((sender, version)),
+                None => Err(LinkEnd::Stranger),
+            },
+            Err(end) => Err(end),
+        }
+    }
+
     /// Reads the link of a peer with its seat and its tosser, and gives the seat back. Where it
     /// begins and where it ends the own link to that peer is dialled anew, if it is of before.
     fn read_seated<R: Machine>(
@@ -262,46 +290,18 @@ impl<D: Disk, J: Life> Shared<D, J> {
         self.renew_link_to(rt, peer);
     }
 
-    /// Greets the peer on the stream, and reads its link to the end; or why the link was refused.
-    /// Until it has its seat it takes one of the places of those that are to greet.
-    fn read_from<R: Machine>(
-        &self,
-        rt: &R,
-        guest: Guest,
-        stream: &mut Incoming,
-    ) -> Result<(), LinkEnd> {
-        let seated = self.seated(rt, guest, stream);
-        self.admission.end_greeting(rt, guest.socket);
-        let (seated, version) = match seated {
-            Ok(Some(seated)) => seated,
-            Ok(None) => return Ok(()),
-            Err(end) => return Err(end),
-        };
-        let Some(tosser) = self.tossers.links.get(usize::from(seated.peer())) else {
-            self.seats.put(rt, seated);
-            return Err(LinkEnd::Busy);
-        };
-        let mut tosser = tosser.lock(rt);
-        self.read_seated(rt, (seated, version), stream, &mut tosser);
-        Ok(())
-    }
-
-    /// One session of a link from a peer.
-    pub(crate) fn serve_guest<R: Machine>(&self, rt: &R, guest: Guest) {
-        match self.stream_at(rt, guest.socket, guest.said) {
-            Some(stream) => {
-                let mut stream = Incoming::new(stream);
-                if let Err(end) = self.read_from(rt, guest, &mut stream) {
-                    let caller = self.caller_at(guest.host, &stream);
-                    self.log_refusal(rt, Refusal::From(guest.host, end), caller);
-                }
-            }
-            None => {
-                self.admission.end_greeting(rt, guest.socket);
-                self.log_refusal(rt, Refusal::From(guest.host, LinkEnd::Lost), None);
-            }
+    /// Returns who dialled from that host, by the Hello that it said, if it said one.
+    fn caller_at(&self, host: IpAddr, stream: &Incoming) -> Option<Caller>
+        ensures { IfSome result
+            (λ caller. (claim : Claim) × (take 18 (told_net stream.now.stream).taken
+            ≡ claim_bytes claim) × (caller.member ≡ claim.from)
+            × Differs claim self.now.hub (MaySpeak J.addresses J.hosts claim.from host)
+            caller.differs) }
+    {
+        match stream.claim() {
+            Some(claim) => Some(Caller::of(&claim, &self.hub.header(), &self.peers, host)),
+            None => None,
         }
-        self.admission.sockets.lock(rt).leave(guest.socket);
     }
 }
 

@@ -83,26 +83,6 @@ impl Logger {
         }
     }
 
-    /// Takes what waits to be told, and how many events came too fast.
-    fn drain<R: Machine>(&self, rt: &R, alloc: Global) -> (Vec<LogEvent>, u64) {
-        match &mut *self.telling.lock(rt) {
-            Some(telling) => telling.queue.drain(alloc),
-            None => (Vec::new(alloc), 0),
-        }
-    }
-
-    /// Tells the log what waits to be told.
-    pub(crate) fn tell<L: Log, R: Machine>(&self, rt: &R, alloc: Global, log: &Mutex<L>) {
-        let (events, missed) = self.drain(rt, alloc);
-        let mut log = log.lock(rt);
-        for event in &events {
-            log.tell(event);
-        }
-        if missed > 0 {
-            log.tell(&LogEvent::Missed(missed));
-        }
-    }
-
     /// Tells the log what is to be told, ten times a second, until the end.
     pub(crate) fn tell_on<L: Log, R: Machine>(
         &self,
@@ -119,5 +99,25 @@ impl Logger {
             thread::sleep(rt, Duration::from_millis(LOG_PAUSE));
         }
         unreachable!()
+    }
+
+    /// Tells the log what waits to be told.
+    pub(crate) fn tell<L: Log, R: Machine>(&self, rt: &R, alloc: Global, log: &Mutex<L>) {
+        let (events, missed) = self.drain(rt, alloc);
+        let mut log = log.lock(rt);
+        for event in &events {
+            log.tell(event);
+        }
+        if missed > 0 {
+            log.tell(&LogEvent::Missed(missed));
+        }
+    }
+
+    /// Takes what waits to be told, and how many events came too fast.
+    fn drain<R: Machine>(&self, rt: &R, alloc: Global) -> (Vec<LogEvent>, u64) {
+        match &mut *self.telling.lock(rt) {
+            Some(telling) => telling.queue.drain(alloc),
+            None => (Vec::new(alloc), 0),
+        }
     }
 }

@@ -107,24 +107,13 @@ impl<'a, D: Disk, J: Life, R: Wait> Outgoing<'a, D, J, R> {
         self.standing == Standing::Up
     }
 
-    /// Returns how many statements more the peer has heard of this member than it had said when it
-    /// was dialled: 0 where the Welcome names no more, or no memory was left to read it.
-    fn excess(&self) -> u64 {
-        match self.read.first() {
-            Some(Message::Welcome { next }) => next.saturating_sub(self.peer.said),
-            _ => 0,
-        }
-    }
-
-    /// The link is up: its event is to be told.
-    fn log_up(&self) {
-        let excess = self.excess();
-        let event = if excess > 0 {
-            LogEvent::LinkUpAhead(self.peer.number, excess, self.peer.version)
-        } else {
-            LogEvent::LinkUpTo(self.peer.number, self.peer.version)
-        };
-        self.shared.log_of_peer(self.rt, self.peer.number, event);
+    /// Bytes were read. Until the link is up they are those of the Welcome.
+    fn stand_after_read(&mut self, bytes: &[u8])
+        ensures { self.new.stream ≡ self.old.stream }
+    {
+        let _unread = self.feeder.feed(bytes, &mut self.read).is_err();
+        self.standing = self.standing.read();
+        self.note_welcome();
     }
 
     /// Notes the Welcome, once it was read.
@@ -139,15 +128,6 @@ impl<'a, D: Disk, J: Life, R: Wait> Outgoing<'a, D, J, R> {
             .note_welcome(self.rt, self.peer.number, self.excess());
     }
 
-    /// Bytes were read. Until the link is up they are those of the Welcome.
-    fn stand_after_read(&mut self, bytes: &[u8])
-        ensures { self.new.stream ≡ self.old.stream }
-    {
-        let _unread = self.feeder.feed(bytes, &mut self.read).is_err();
-        self.standing = self.standing.read();
-        self.note_welcome();
-    }
-
     /// A write took bytes. Where the link is up by that its event is to be told.
     fn stand_after_write(&mut self)
         ensures { self.new ≡ record self.old { standing = after_written self.old.standing } }
@@ -156,6 +136,26 @@ impl<'a, D: Disk, J: Life, R: Wait> Outgoing<'a, D, J, R> {
             self.log_up();
         }
         self.standing = self.standing.written();
+    }
+
+    /// The link is up: its event is to be told.
+    fn log_up(&self) {
+        let excess = self.excess();
+        let event = if excess > 0 {
+            LogEvent::LinkUpAhead(self.peer.number, excess, self.peer.version)
+        } else {
+            LogEvent::LinkUpTo(self.peer.number, self.peer.version)
+        };
+        self.shared.log_of_peer(self.rt, self.peer.number, event);
+    }
+
+    /// Returns how many statements more the peer has heard of this member than it had said when it
+    /// was dialled: 0 where the Welcome names no more, or no memory was left to read it.
+    fn excess(&self) -> u64 {
+        match self.read.first() {
+            Some(Message::Welcome { next }) => next.saturating_sub(self.peer.said),
+            _ => 0,
+        }
     }
 }
 

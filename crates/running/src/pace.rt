@@ -19,20 +19,6 @@ pub(crate) struct Pace {
 }
 
 impl Pace {
-    /// The pace in the minute of that second: nothing was told yet where another one has begun.
-    fn at(self, now: u64) -> Pace
-        ensures { result ≡ pace_at self now }
-    {
-        if now.saturating_sub(self.began) >= MINUTE {
-            Pace {
-                began: now,
-                told: 0,
-            }
-        } else {
-            self
-        }
-    }
-
     /// Returns `true` if one more line may be told at that second: the 20th of its minute is the
     /// last one.
     pub(crate) fn admits(self, now: u64) -> bool
@@ -53,6 +39,20 @@ impl Pace {
             }
         } else {
             here
+        }
+    }
+
+    /// The pace in the minute of that second: nothing was told yet where another one has begun.
+    fn at(self, now: u64) -> Pace
+        ensures { result ≡ pace_at self now }
+    {
+        if now.saturating_sub(self.began) >= MINUTE {
+            Pace {
+                began: now,
+                told: 0,
+            }
+        } else {
+            self
         }
     }
 }

@@ -35,6 +35,23 @@ pub(crate) struct Given {
     displaced: Option<u64>,
 }
 
+impl Given {
+    /// Returns its number.
+    pub(crate) fn slot(self) -> u8
+        ensures { result ≡ self.slot }
+    {
+        self.slot
+    }
+
+    /// Returns for how many seconds the client was silent that is to be closed for this one, if one
+    /// is.
+    pub(crate) fn displaced(self) -> Option<u64>
+        ensures { result ≡ self.displaced }
+    {
+        self.displaced
+    }
+}
+
 /// Gives a client that comes at that second a slot; none if it is to wait for one.
 pub(crate) fn give(slots: &mut Slots, now: u64) -> Option<Given>
     ensures some { IfSome result (λ given. slots.new ≡ has_come slots.old given.slot now) }
@@ -55,22 +72,5 @@ pub(crate) fn give(slots: &mut Slots, now: u64) -> Option<Given>
             displaced: Some(silent),
         }),
         None => None,
-    }
-}
-
-impl Given {
-    /// Returns its number.
-    pub(crate) fn slot(self) -> u8
-        ensures { result ≡ self.slot }
-    {
-        self.slot
-    }
-
-    /// Returns for how many seconds the client was silent that is to be closed for this one, if one
-    /// is.
-    pub(crate) fn displaced(self) -> Option<u64>
-        ensures { result ≡ self.displaced }
-    {
-        self.displaced
     }
 }

@@ -66,31 +66,7 @@ pub struct KeptRefusal {
     pub told: u64,
 }
 
-/// The refusals that were told last, at most 64. Contracts see its places.
-#[derive(Drop)]
-pub struct Refusals {
-    places: [Option<KeptRefusal>; PLACES],
-}
-
-impl Model for Refusals {
-    ghost use Rattle.running.specs.Refusals.{IsTable, Table};
-
-    ghost Value = { Table };
-
-    ghost view = { λ refusals. refusals.places };
-
-    ghost invariant = { λ refusals. IsTable refusals.places };
-}
-
 impl KeptRefusal {
-    /// Returns `true` if a minute has passed since its last line, or as many are held back as can
-    /// be counted.
-    fn is_due(&self, now: u64) -> bool
-        ensures { result ≡ is_due now self.now }
-    {
-        now.saturating_sub(self.told) >= MINUTE || self.held == u32::MAX
-    }
-
     /// Returns what is kept of it when it comes again, and what is told of it: nothing until it is
     /// due.
     fn come_again(&self, now: u64, caller: Option<Caller>) -> (KeptRefusal, Option<RefusalCount>)
@@ -125,6 +101,105 @@ impl KeptRefusal {
             ..*self
         };
         (after, None)
+    }
+
+    /// Returns `true` if a minute has passed since its last line, or as many are held back as can
+    /// be counted.
+    fn is_due(&self, now: u64) -> bool
+        ensures { result ≡ is_due now self.now }
+    {
+        now.saturating_sub(self.told) >= MINUTE || self.held == u32::MAX
+    }
+}
+
+/// The refusals that were told last, at most 64. Contracts see its places.
+#[derive(Drop)]
+pub struct Refusals {
+    places: [Option<KeptRefusal>; PLACES],
+}
+
+impl Model for Refusals {
+    ghost use Rattle.running.specs.Refusals.{IsTable, Table};
+
+    ghost Value = { Table };
+
+    ghost view = { λ refusals. refusals.places };
+
+    ghost invariant = { λ refusals. IsTable refusals.places };
+}
+
+impl Refusals {
+    /// Nothing was refused.
+    pub fn new() -> Refusals
+        ensures { result ≡ empty }
+    {
+        Refusals {
+            places: [None; PLACES],
+        }
+    }
+
+    /// A refusal came, at that second. What is to be told of it is nothing where its last line is
+    /// of less than a minute ago, else how often it came since, this time included. Before that
+    /// stands what is left to tell of the refusal that gave its place, if one did.
+    pub fn count(
+        &mut self,
+        now: u64,
+        refusal: Refusal,
+        caller: Option<Caller>,
+    ) -> (Option<RefusalCount>, Option<RefusalCount>)
+        ensures { IsNoted now refusal caller self.old self.new result.0 result.1 }
+    {
+        match find(&self.places, refusal) {
+            Some((at, kept)) => {
+                let line = count_again(&mut self.places, at, &kept, now, caller);
+                (None, line)
+            }
+            None => count_first(&mut self.places, now, refusal, caller),
+        }
+    }
+
+    /// Has told what is due at that second: of each refusal that was held back and whose last line
+    /// is a minute old, how often it came since.
+    pub fn tell_due(&mut self, now: u64, queue: &mut Queue)
+        ensures events { HaveCome queue.old (events_of (dues now self.old)) queue.new }
+        ensures after { (at : ℕ) → at < 64 →
+            place_at self.new at ≡ after_due now (place_at self.old at) }
+        // No count is lost.
+        ensures counts { held self.new + counted_by (dues now self.old) ≡ held self.old }
+    {
+        tell_all_due(&mut self.places, now, queue);
+    }
+}
+
+/// Returns the place of a refusal, and what is kept of it.
+fn find(places: &[Option<KeptRefusal>; PLACES], refusal: Refusal) -> Option<(usize, KeptRefusal)>
+    ensures some { IfSome result
+        (λ found. KeepsAt places.now found.0 found.1 × (found.1.refusal ≡ refusal)) }
+    ensures within { IfSome result (λ found. found.0 < 64) }
+    ensures none { IfNone result (Lacks places.now refusal) }
+{
+    for (at, kept) in places.iter().enumerate() {
+        if let Some(kept) = kept {
+            if is_same(kept.refusal, refusal) {
+                return Some((at, *kept));
+            }
+        }
+    }
+    None
+}
+
+/// Returns `true` if these are one refusal.
+fn is_same(one: Refusal, other: Refusal) -> bool
+    ensures { IsTrue result ↔ (one ≡ other) }
+{
+    match other {
+        Refusal::From(host, end) => is_from(one, host, end),
+        Refusal::By(peer) => is_by(one, peer),
+        Refusal::Unreachable(peer, fault) => is_unreachable(one, peer, fault),
+        Refusal::Unsteady(peer) => is_unsteady(one, peer),
+        Refusal::Threadless => is_threadless(one),
+        Refusal::Crowded => is_crowded(one),
+        Refusal::Stalled(host) => is_stalled(one, host),
     }
 }
 
@@ -233,101 +308,6 @@ fn is_stalled(refusal: Refusal, host: IpAddr) -> bool
     }
 }
 
-/// Returns `true` if these are one refusal.
-fn is_same(one: Refusal, other: Refusal) -> bool
-    ensures { IsTrue result ↔ (one ≡ other) }
-{
-    match other {
-        Refusal::From(host, end) => is_from(one, host, end),
-        Refusal::By(peer) => is_by(one, peer),
-        Refusal::Unreachable(peer, fault) => is_unreachable(one, peer, fault),
-        Refusal::Unsteady(peer) => is_unsteady(one, peer),
-        Refusal::Threadless => is_threadless(one),
-        Refusal::Crowded => is_crowded(one),
-        Refusal::Stalled(host) => is_stalled(one, host),
-    }
-}
-
-/// Returns the place of a refusal, and what is kept of it.
-fn find(places: &[Option<KeptRefusal>; PLACES], refusal: Refusal) -> Option<(usize, KeptRefusal)>
-    ensures some { IfSome result
-        (λ found. KeepsAt places.now found.0 found.1 × (found.1.refusal ≡ refusal)) }
-    ensures within { IfSome result (λ found. found.0 < 64) }
-    ensures none { IfNone result (Lacks places.now refusal) }
-{
-    for (at, kept) in places.iter().enumerate() {
-        if let Some(kept) = kept {
-            if is_same(kept.refusal, refusal) {
-                return Some((at, *kept));
-            }
-        }
-    }
-    None
-}
-
-/// Returns `true` if the last line of one is older than that of the other. A free place is older
-/// than any.
-fn is_older(one: &Option<KeptRefusal>, other: &Option<KeptRefusal>) -> bool
-    ensures { result ≡ is_older one.now other.now }
-{
-    match (one, other) {
-        (_, None) => false,
-        (None, Some(_)) => true,
-        (Some(one), Some(other)) => one.told < other.told,
-    }
-}
-
-/// The place whose last line is the oldest, or one that is free.
-fn oldest(places: &[Option<KeptRefusal>; PLACES]) -> usize
-    ensures { IsOldest places.now result }
-{
-    let mut oldest = 0;
-    for at in 1..PLACES {
-        if is_older(&places[at], &places[oldest]) {
-            oldest = at;
-        }
-    }
-    oldest
-}
-
-/// Returns what is left to tell of a refusal that gives its place.
-fn left_of(kept: &Option<KeptRefusal>) -> Option<RefusalCount>
-    ensures { result ≡ left_of kept.now }
-{
-    match kept {
-        Some(kept) if kept.held > 0 => Some(RefusalCount {
-            refusal: kept.refusal,
-            caller: kept.caller,
-            count: u64::from(kept.held),
-        }),
-        _ => None,
-    }
-}
-
-/// Returns what is due of what is kept, at that second.
-fn due_of(kept: &Option<KeptRefusal>, now: u64) -> Option<RefusalCount>
-    ensures { result ≡ due_of now kept.now }
-{
-    match kept {
-        Some(it) if it.is_due(now) => left_of(kept),
-        _ => None,
-    }
-}
-
-/// Returns what is kept of it then.
-fn after_due(kept: &Option<KeptRefusal>, now: u64) -> Option<KeptRefusal>
-    ensures { result ≡ after_due now kept.now }
-{
-    match *kept {
-        Some(it) if it.is_due(now) && it.held > 0 => Some(KeptRefusal {
-            held: 0,
-            told: now,
-            ..it
-        }),
-        other => other,
-    }
-}
-
 /// A refusal that is kept at a place comes again.
 fn count_again(
     places: &mut [Option<KeptRefusal>; PLACES],
@@ -375,25 +355,28 @@ fn count_first(
     (left, Some(line))
 }
 
-/// Returns what is due at that second of the refusal at a place.
-fn due_at(places: &mut [Option<KeptRefusal>; PLACES], at: usize, now: u64) -> Option<RefusalCount>
-    requires table { IsTable places.old }
-    requires within { at < 64 }
-    ensures table { IsTable places.new }
-    ensures due { result ≡ due_of now (place_at places.old at) }
-    ensures after { places.new ≡ slice_set places.old at (after_due now (place_at places.old at)) }
+/// The place whose last line is the oldest, or one that is free.
+fn oldest(places: &[Option<KeptRefusal>; PLACES]) -> usize
+    ensures { IsOldest places.now result }
 {
-    let kept = places[at];
-    places[at] = after_due(&kept, now);
-    due_of(&kept, now)
+    let mut oldest = 0;
+    for at in 1..PLACES {
+        if is_older(&places[at], &places[oldest]) {
+            oldest = at;
+        }
+    }
+    oldest
 }
 
-/// The line is to be told, if it is one.
-pub(crate) fn put_line(queue: &mut Queue, line: Option<RefusalCount>)
-    ensures { HaveCome queue.old (events_of (option_to_list line)) queue.new }
+/// Returns `true` if the last line of one is older than that of the other. A free place is older
+/// than any.
+fn is_older(one: &Option<KeptRefusal>, other: &Option<KeptRefusal>) -> bool
+    ensures { result ≡ is_older one.now other.now }
 {
-    if let Some(line) = line {
-        queue.put(LogEvent::Refused(line));
+    match (one, other) {
+        (_, None) => false,
+        (None, Some(_)) => true,
+        (Some(one), Some(other)) => one.told < other.told,
     }
 }
 
@@ -412,45 +395,62 @@ fn tell_all_due(places: &mut [Option<KeptRefusal>; PLACES], now: u64, queue: &mu
     }
 }
 
-impl Refusals {
-    /// Nothing was refused.
-    pub fn new() -> Refusals
-        ensures { result ≡ empty }
-    {
-        Refusals {
-            places: [None; PLACES],
-        }
-    }
+/// Returns what is due at that second of the refusal at a place.
+fn due_at(places: &mut [Option<KeptRefusal>; PLACES], at: usize, now: u64) -> Option<RefusalCount>
+    requires table { IsTable places.old }
+    requires within { at < 64 }
+    ensures table { IsTable places.new }
+    ensures due { result ≡ due_of now (place_at places.old at) }
+    ensures after { places.new ≡ slice_set places.old at (after_due now (place_at places.old at)) }
+{
+    let kept = places[at];
+    places[at] = after_due(&kept, now);
+    due_of(&kept, now)
+}
 
-    /// A refusal came, at that second. What is to be told of it is nothing where its last line is
-    /// of less than a minute ago, else how often it came since, this time included. Before that
-    /// stands what is left to tell of the refusal that gave its place, if one did.
-    pub fn count(
-        &mut self,
-        now: u64,
-        refusal: Refusal,
-        caller: Option<Caller>,
-    ) -> (Option<RefusalCount>, Option<RefusalCount>)
-        ensures { IsNoted now refusal caller self.old self.new result.0 result.1 }
-    {
-        match find(&self.places, refusal) {
-            Some((at, kept)) => {
-                let line = count_again(&mut self.places, at, &kept, now, caller);
-                (None, line)
-            }
-            None => count_first(&mut self.places, now, refusal, caller),
-        }
+/// Returns what is due of what is kept, at that second.
+fn due_of(kept: &Option<KeptRefusal>, now: u64) -> Option<RefusalCount>
+    ensures { result ≡ due_of now kept.now }
+{
+    match kept {
+        Some(it) if it.is_due(now) => left_of(kept),
+        _ => None,
     }
+}
 
-    /// Has told what is due at that second: of each refusal that was held back and whose last line
-    /// is a minute old, how often it came since.
-    pub fn tell_due(&mut self, now: u64, queue: &mut Queue)
-        ensures events { HaveCome queue.old (events_of (dues now self.old)) queue.new }
-        ensures after { (at : ℕ) → at < 64 →
-            place_at self.new at ≡ after_due now (place_at self.old at) }
-        // No count is lost.
-        ensures counts { held self.new + counted_by (dues now self.old) ≡ held self.old }
-    {
-        tell_all_due(&mut self.places, now, queue);
+/// Returns what is left to tell of a refusal that gives its place.
+fn left_of(kept: &Option<KeptRefusal>) -> Option<RefusalCount>
+    ensures { result ≡ left_of kept.now }
+{
+    match kept {
+        Some(kept) if kept.held > 0 => Some(RefusalCount {
+            refusal: kept.refusal,
+            caller: kept.caller,
+            count: u64::from(kept.held),
+        }),
+        _ => None,
+    }
+}
+
+/// Returns what is kept of it then.
+fn after_due(kept: &Option<KeptRefusal>, now: u64) -> Option<KeptRefusal>
+    ensures { result ≡ after_due now kept.now }
+{
+    match *kept {
+        Some(it) if it.is_due(now) && it.held > 0 => Some(KeptRefusal {
+            held: 0,
+            told: now,
+            ..it
+        }),
+        other => other,
+    }
+}
+
+/// The line is to be told, if it is one.
+pub(crate) fn put_line(queue: &mut Queue, line: Option<RefusalCount>)
+    ensures { HaveCome queue.old (events_of (option_to_list line)) queue.new }
+{
+    if let Some(line) = line {
+        queue.put(LogEvent::Refused(line));
     }
 }

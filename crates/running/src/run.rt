@@ -1,4 +1,4 @@
-//! The life of a member, from its opening to its end: begin at `run_member`, last.
+//! The life of a member, from its opening to its end: begin at `run_member`.
 
 ghost use Rattle.std.specs.Prelude.{◌≡◌, ◌*◌, ◌+◌, ◌<◌, ◌^◌, [], false, length, IfOk};
 ghost use Rattle.member.specs.Sound.{HasItsFile, IsSound};
@@ -87,69 +87,6 @@ pub trait Operator {
     fn unstarted(&mut self) {}
 }
 
-/// A member that was just opened, and what its run begins with: its board, where the members listen
-/// and from where their links are taken, how many clients it lets in, and the seed of its tosses.
-struct Opened<D: Disk> {
-    alloc: Global,
-    member: Member<D>,
-    board: NewBoard,
-    addresses: Vec<SocketAddr>,
-    hosts: Hosts,
-    clients: u8,
-    followers: u16,
-    patience: u64,
-    chain: Option<InChain>,
-    seed: [u8; 32],
-}
-
-/// Makes what the threads of a member share that was just opened. Its peers and its tosses are
-/// those that the run was given.
-fn share<D: Disk + Drop, J: Life>(opened: Opened<D>) -> Result<Shared<D, J>, Memory>
-    requires addresses { opened.addresses.items ≡ J.addresses }
-    requires hosts { opened.hosts ≡ J.hosts }
-    requires seed { opened.seed ≡ J.seed }
-    requires sound { IsSound D.Disk opened.member }
-    requires fresh { member_is_stopped opened.member ≡ false →
-        MemberStandsFor opened.member (member_saved opened.member) [] }
-    requires header { member_header opened.member ≡ J.header }
-    requires opening { member_saved opened.member ≡ J.opening }
-    requires board { opened.board ≡ J.names }
-    requires cells { length opened.board.cells ≡ (member_header opened.member).size.questions }
-{
-    let Opened {
-        alloc,
-        member,
-        board,
-        addresses,
-        hosts,
-        clients,
-        followers,
-        patience,
-        chain,
-        seed,
-    } = opened;
-    let tossers = lock_tossers::<D, J>(alloc, seed, &member)?;
-    let (hub, seats) = Hub::<D, J>::open(alloc, member, board)?;
-    Ok(Shared {
-        alloc,
-        peers: Peers::new(addresses, hosts),
-        hub,
-        seats: Seats::new(seats),
-        tossers,
-        turns: Turns::new(),
-        admission: Admission::new(alloc, clients),
-        followers: Mutex::new(Followers::new(alloc, followers)),
-        followed: Condvar::new(),
-        ahead: Mutex::new(Ahead::nobody()),
-        welcomes: Mutex::new(Welcomes::none()),
-        patience,
-        ending: Ending::new(),
-        clock: RunClock::new(),
-        logger: Logger::new(),
-        chain,
-    })
-}
-
 impl<D: Disk, J: Life> Shared<D, J> {
     /// Begins the log: from now on it is told what happens, and first that the member is ready.
     fn begin_log<R: Machine>(&self, rt: &R) -> Result<(), Memory> {
@@ -167,307 +104,6 @@ impl<D: Disk, J: Life> Shared<D, J> {
         self.logger.tell(rt, self.alloc, log);
         log.lock(rt).tell(&LogEvent::End);
     }
-}
-
-/// Dials each member, itself too, in a thread of its own, and runs the other threads until the
-/// operator ends the member, where all of these were started. Ends all threads.
-fn run_threads<D: Disk + Send, J: Life + Send + Sync, O: Operator, R: Machine>(
-    rt: &R,
-    operator: &mut O,
-    shared: &Shared<D, J>,
-    doors: &Doors,
-) -> Result<(), RunFault> {
-    thread::scope(thread::scope_env(), rt, |scope| -> Result<(), RunFault> {
-        let mut peer = 0u8;
-        for _ in 0..u64::MAX {
-            let Some(address) = shared.address_of(peer) else {
-                break;
-            };
-            if scope
-                .spawn(move || shared.dial_on(rt, peer, address))
-                .is_err()
-            {
-                break;
-            }
-            peer = peer.saturating_add(1);
-        }
-        run_clock(
-            rt,
-            operator,
-            shared,
-            doors,
-            shared.address_of(peer).is_none(),
-        )
-    })
-}
-
-/// Takes clients of this machine in, if they have a door, and waits for the operator to end the
-/// member, where all other threads were started. Ends all threads.
-fn run_local<D: Disk + Send, J: Life + Send + Sync, O: Operator, R: Machine>(
-    rt: &R,
-    operator: &mut O,
-    shared: &Shared<D, J>,
-    doors: &Doors,
-    started: bool,
-) -> Result<(), RunFault> {
-    thread::scope(thread::scope_env(), rt, |scope| -> Result<(), RunFault> {
-        let locals = match &doors.local {
-            Some(door) => {
-                let listener = &door.listener;
-                scope
-                    .spawn(move || accept_clients(rt, shared, listener))
-                    .is_ok()
-            }
-            None => true,
-        };
-        let end = if started && locals {
-            operator.until_end()
-        } else {
-            operator.unstarted();
-            Err(RunFault::Memory)
-        };
-        shared.close(rt);
-        doors.shut(rt);
-        end
-    })
-}
-
-/// Tells followers until the operator ends the member, where all threads before were started, and
-/// ends all threads.
-fn run_followers<D: Disk + Send, J: Life + Send + Sync, O: Operator, R: Machine>(
-    rt: &R,
-    operator: &mut O,
-    shared: &Shared<D, J>,
-    doors: &Doors,
-    started: bool,
-) -> Result<(), RunFault> {
-    thread::scope(thread::scope_env(), rt, |scope| -> Result<(), RunFault> {
-        let tells = scope.spawn(move || shared.follow_on(rt)).is_ok();
-        run_local(rt, operator, shared, doors, started && tells)
-    })
-}
-
-/// Takes clients in until the operator ends the member, where all threads before were started, and
-/// ends all threads.
-fn run_desk<D: Disk + Send, J: Life + Send + Sync, O: Operator, R: Machine>(
-    rt: &R,
-    operator: &mut O,
-    shared: &Shared<D, J>,
-    doors: &Doors,
-    started: bool,
-) -> Result<(), RunFault> {
-    thread::scope(thread::scope_env(), rt, |scope| -> Result<(), RunFault> {
-        let listener = &doors.desk.listener;
-        let clients = scope
-            .spawn(move || accept_clients(rt, shared, listener))
-            .is_ok();
-        run_followers(rt, operator, shared, doors, started && clients)
-    })
-}
-
-/// Takes links in until the operator ends the member, where all threads before were started, and
-/// ends all threads.
-fn run_links<D: Disk + Send, J: Life + Send + Sync, O: Operator, R: Machine>(
-    rt: &R,
-    operator: &mut O,
-    shared: &Shared<D, J>,
-    doors: &Doors,
-    started: bool,
-) -> Result<(), RunFault> {
-    thread::scope(thread::scope_env(), rt, |scope| -> Result<(), RunFault> {
-        let listener = &doors.links.listener;
-        let links = scope
-            .spawn(move || accept_links(rt, shared, listener))
-            .is_ok();
-        run_desk(rt, operator, shared, doors, started && links)
-    })
-}
-
-/// Runs the clock until the operator ends the member, where the diallers were started, and ends all
-/// threads.
-fn run_clock<D: Disk + Send, J: Life + Send + Sync, O: Operator, R: Machine>(
-    rt: &R,
-    operator: &mut O,
-    shared: &Shared<D, J>,
-    doors: &Doors,
-    dials: bool,
-) -> Result<(), RunFault> {
-    thread::scope(thread::scope_env(), rt, |scope| -> Result<(), RunFault> {
-        let clock = scope.spawn(move || shared.tick_on(rt)).is_ok();
-        run_links(rt, operator, shared, doors, dials && clock)
-    })
-}
-
-/// Runs all threads until the operator ends the member, and one more that tells the log what is to
-/// be told. Where the system refuses that one all is told at the end.
-fn run_logged<D: Disk + Send, J: Life + Send + Sync, O: Operator, L: Log + Send, R: Machine>(
-    rt: &R,
-    operator: &mut O,
-    log: &Mutex<L>,
-    shared: &Shared<D, J>,
-    doors: &Doors,
-) -> Result<(), RunFault> {
-    let tells = || shared.logger.tell_on(rt, shared.alloc, &shared.ending, log);
-    let runs = || run_threads(rt, operator, shared, doors);
-    let ((), ended) = thread::join(rt, tells, runs);
-    shared.end_log(rt, log);
-    ended
-}
-
-/// Runs a member whose threads share this: tries whether the system gives them, tells the operator
-/// that it is ready, and then starts them.
-fn run_shared<D: Disk + Send, J: Life + Send + Sync, O: Operator, L: Log + Send, R: Machine>(
-    rt: &R,
-    operator: &mut O,
-    log: Option<&Mutex<L>>,
-    shared: &Shared<D, J>,
-    doors: &Doors,
-) -> Result<(), RunFault> {
-    if log.is_some() {
-        shared.begin_log(rt)?;
-    }
-    let size = shared.hub.header().size();
-    if !can_start(
-        rt,
-        least_threads(size, log.is_some(), doors.local.is_some()),
-    ) {
-        operator.unstarted();
-        return Err(RunFault::Memory);
-    }
-    shared.listen(rt);
-    operator.ready()?;
-    match log {
-        Some(log) => run_logged(rt, operator, log, shared, doors)?,
-        None => run_threads(rt, operator, shared, doors)?,
-    }
-    if shared.is_forgotten(rt) {
-        return Err(RunFault::Forgotten);
-    }
-    if shared.hub.lock(rt).is_stopped() && !shared.ending.is_unheard() {
-        return Err(RunFault::Stopped);
-    }
-    Ok(())
-}
-
-/// Takes the book out of what the threads shared, once they have ended, and compares its history
-/// with what the sessions of each link handed in.
-///
-/// # Errors
-///
-/// [`RunFault::Torn`]: they differ.
-fn settle<D: Disk + Drop, J: Life>(shared: Shared<D, J>) -> Result<Ended<D>, RunFault>
-    ensures opening { IfOk result (λ ended. ended.opening ≡ J.opening) }
-    ensures header { IfOk result (λ ended. member_header ended.member ≡ J.header) }
-    ensures replay { IfOk result
-        (λ ended. IsReplayed ended.member ended.opening ended.history) }
-{
-    let (hub, seats) = shared.into_parts();
-    match close(hub, seats.into_seats()) {
-        Ok(closing) => Ok(closing.end()),
-        Err(_) => Err(RunFault::Torn),
-    }
-}
-
-/// Runs a member whose board has been named.
-fn run_named<D: Disk + Drop + Send, J: Life + Send + Sync, O: Operator, L: Log + Send, R: Machine>(
-    rt: &R,
-    opened: Opened<D>,
-    doors: Doors,
-    operator: &mut O,
-    log: Option<&Mutex<L>>,
-) -> Result<Ended<D>, RunFault>
-    requires may_toss { O.may_toss_from operator.old J.seed }
-    requires addresses { opened.addresses.items ≡ J.addresses }
-    requires hosts { opened.hosts ≡ J.hosts }
-    requires seed { opened.seed ≡ J.seed }
-    requires sound { IsSound D.Disk opened.member }
-    requires fresh { member_is_stopped opened.member ≡ false →
-        MemberStandsFor opened.member (member_saved opened.member) [] }
-    requires header { member_header opened.member ≡ J.header }
-    requires opening { member_saved opened.member ≡ J.opening }
-    requires board { opened.board ≡ J.names }
-    requires cells { length opened.board.cells ≡ (member_header opened.member).size.questions }
-    ensures opening { IfOk result (λ ended. ended.opening ≡ J.opening) }
-    ensures header { IfOk result (λ ended. member_header ended.member ≡ J.header) }
-    ensures replay { IfOk result
-        (λ ended. IsReplayed ended.member ended.opening ended.history) }
-{
-    let shared = share::<D, J>(opened)?;
-    run_shared(rt, operator, log, &shared, &doors)?;
-    settle(shared)
-}
-
-/// A listener at this address, and what shuts it down.
-fn door<R: Machine>(rt: &R, address: SocketAddr) -> io::Result<Door> {
-    Door::new(Listener::Tcp(TcpListener::bind(rt, address)?))
-}
-
-/// Binds a listener. The operator is told why there is none.
-pub(crate) fn listen<O: Operator, R: Machine>(
-    rt: &R,
-    address: SocketAddr,
-    operator: &mut O,
-) -> Result<Door, RunFault>
-    ensures { IfOk result (λ _. operator.new ≡ operator.old) }
-{
-    match door(rt, address) {
-        Ok(door) => Ok(door),
-        Err(error) => {
-            operator.unheard(address, &error);
-            Err(RunFault::Listen)
-        }
-    }
-}
-
-/// The door of clients of this machine, if anything listens for them.
-pub(crate) fn local_door(local: Option<UnixListener>) -> Result<Option<Door>, RunFault> {
-    let Some(listener) = local else {
-        return Ok(None);
-    };
-    match Door::new(Listener::Unix(listener)) {
-        Ok(door) => Ok(Some(door)),
-        Err(_) => Err(RunFault::Listen),
-    }
-}
-
-/// The doors of an epoch.
-fn epoch_doors(chain: &InChain) -> Result<Doors, RunFault> {
-    let epochs::Doors { links, clients } = chain.doors.share()?;
-    let (Ok(links), Ok(desk)) = (
-        Door::new(Listener::Epoch(links)),
-        Door::new(Listener::Epoch(clients)),
-    ) else {
-        return Err(RunFault::Listen);
-    };
-    Ok(Doors {
-        links,
-        desk,
-        local: None,
-    })
-}
-
-/// Opens the doors of the member of that number. The door of clients of this machine takes its
-/// listener out.
-fn doors_of<O: Operator, R: Machine>(
-    rt: &R,
-    operator: &mut O,
-    addresses: &mut Addresses,
-    me: u8,
-) -> Result<Doors, RunFault>
-    ensures { IfOk result (λ _. operator.new ≡ operator.old) }
-{
-    let Some(own) = addresses.peers.get(usize::from(me)) else {
-        return Err(RunFault::Listen);
-    };
-    if let Some(chain) = &addresses.chain {
-        return epoch_doors(chain);
-    }
-    let links = addresses.listen.unwrap_or(*own);
-    Ok(Doors {
-        links: listen(rt, links, operator)?,
-        desk: listen(rt, addresses.desk, operator)?,
-        local: local_door(addresses.local.take())?,
-    })
 }
 
 /// A member that was just opened, and what its run takes.
@@ -564,4 +200,368 @@ pub fn run_member<D: Disk + Drop + Send, O: Operator, L: Log + Send, R: Machine>
         seed,
     };
     run_named::<D, Brand, O, L, R>(rt, opened, doors, operator, log)
+}
+
+/// Opens the doors of the member of that number. The door of clients of this machine takes its
+/// listener out.
+fn doors_of<O: Operator, R: Machine>(
+    rt: &R,
+    operator: &mut O,
+    addresses: &mut Addresses,
+    me: u8,
+) -> Result<Doors, RunFault>
+    ensures { IfOk result (λ _. operator.new ≡ operator.old) }
+{
+    let Some(own) = addresses.peers.get(usize::from(me)) else {
+        return Err(RunFault::Listen);
+    };
+    if let Some(chain) = &addresses.chain {
+        return epoch_doors(chain);
+    }
+    let links = addresses.listen.unwrap_or(*own);
+    Ok(Doors {
+        links: listen(rt, links, operator)?,
+        desk: listen(rt, addresses.desk, operator)?,
+        local: local_door(addresses.local.take())?,
+    })
+}
+
+/// The doors of an epoch.
+fn epoch_doors(chain: &InChain) -> Result<Doors, RunFault> {
+    let epochs::Doors { links, clients } = chain.doors.share()?;
+    let (Ok(links), Ok(desk)) = (
+        Door::new(Listener::Epoch(links)),
+        Door::new(Listener::Epoch(clients)),
+    ) else {
+        return Err(RunFault::Listen);
+    };
+    Ok(Doors {
+        links,
+        desk,
+        local: None,
+    })
+}
+
+/// Runs a member whose board has been named.
+fn run_named<D: Disk + Drop + Send, J: Life + Send + Sync, O: Operator, L: Log + Send, R: Machine>(
+    rt: &R,
+    opened: Opened<D>,
+    doors: Doors,
+    operator: &mut O,
+    log: Option<&Mutex<L>>,
+) -> Result<Ended<D>, RunFault>
+    requires may_toss { O.may_toss_from operator.old J.seed }
+    requires addresses { opened.addresses.items ≡ J.addresses }
+    requires hosts { opened.hosts ≡ J.hosts }
+    requires seed { opened.seed ≡ J.seed }
+    requires sound { IsSound D.Disk opened.member }
+    requires fresh { member_is_stopped opened.member ≡ false →
+        MemberStandsFor opened.member (member_saved opened.member) [] }
+    requires header { member_header opened.member ≡ J.header }
+    requires opening { member_saved opened.member ≡ J.opening }
+    requires board { opened.board ≡ J.names }
+    requires cells { length opened.board.cells ≡ (member_header opened.member).size.questions }
+    ensures opening { IfOk result (λ ended. ended.opening ≡ J.opening) }
+    ensures header { IfOk result (λ ended. member_header ended.member ≡ J.header) }
+    ensures replay { IfOk result
+        (λ ended. IsReplayed ended.member ended.opening ended.history) }
+{
+    let shared = share::<D, J>(opened)?;
+    run_shared(rt, operator, log, &shared, &doors)?;
+    settle(shared)
+}
+
+/// Makes what the threads of a member share that was just opened. Its peers and its tosses are
+/// those that the run was given.
+fn share<D: Disk + Drop, J: Life>(opened: Opened<D>) -> Result<Shared<D, J>, Memory>
+    requires addresses { opened.addresses.items ≡ J.addresses }
+    requires hosts { opened.hosts ≡ J.hosts }
+    requires seed { opened.seed ≡ J.seed }
+    requires sound { IsSound D.Disk opened.member }
+    requires fresh { member_is_stopped opened.member ≡ false →
+        MemberStandsFor opened.member (member_saved opened.member) [] }
+    requires header { member_header opened.member ≡ J.header }
+    requires opening { member_saved opened.member ≡ J.opening }
+    requires board { opened.board ≡ J.names }
+    requires cells { length opened.board.cells ≡ (member_header opened.member).size.questions }
+{
+    let Opened {
+        alloc,
+        member,
+        board,
+        addresses,
+        hosts,
+        clients,
+        followers,
+        patience,
+        chain,
+        seed,
+    } = opened;
+    let tossers = lock_tossers::<D, J>(alloc, seed, &member)?;
+    let (hub, seats) = Hub::<D, J>::open(alloc, member, board)?;
+    Ok(Shared {
+        alloc,
+        peers: Peers::new(addresses, hosts),
+        hub,
+        seats: Seats::new(seats),
+        tossers,
+        turns: Turns::new(),
+        admission: Admission::new(alloc, clients),
+        followers: Mutex::new(Followers::new(alloc, followers)),
+        followed: Condvar::new(),
+        ahead: Mutex::new(Ahead::nobody()),
+        welcomes: Mutex::new(Welcomes::none()),
+        patience,
+        ending: Ending::new(),
+        clock: RunClock::new(),
+        logger: Logger::new(),
+        chain,
+    })
+}
+
+/// A member that was just opened, and what its run begins with: its board, where the members listen
+/// and from where their links are taken, how many clients it lets in, and the seed of its tosses.
+struct Opened<D: Disk> {
+    alloc: Global,
+    member: Member<D>,
+    board: NewBoard,
+    addresses: Vec<SocketAddr>,
+    hosts: Hosts,
+    clients: u8,
+    followers: u16,
+    patience: u64,
+    chain: Option<InChain>,
+    seed: [u8; 32],
+}
+
+/// Runs a member whose threads share this: tries whether the system gives them, tells the operator
+/// that it is ready, and then starts them.
+fn run_shared<D: Disk + Send, J: Life + Send + Sync, O: Operator, L: Log + Send, R: Machine>(
+    rt: &R,
+    operator: &mut O,
+    log: Option<&Mutex<L>>,
+    shared: &Shared<D, J>,
+    doors: &Doors,
+) -> Result<(), RunFault> {
+    if log.is_some() {
+        shared.begin_log(rt)?;
+    }
+    let size = shared.hub.header().size();
+    if !can_start(
+        rt,
+        least_threads(size, log.is_some(), doors.local.is_some()),
+    ) {
+        operator.unstarted();
+        return Err(RunFault::Memory);
+    }
+    shared.listen(rt);
+    operator.ready()?;
+    match log {
+        Some(log) => run_logged(rt, operator, log, shared, doors)?,
+        None => run_threads(rt, operator, shared, doors)?,
+    }
+    if shared.is_forgotten(rt) {
+        return Err(RunFault::Forgotten);
+    }
+    if shared.hub.lock(rt).is_stopped() && !shared.ending.is_unheard() {
+        return Err(RunFault::Stopped);
+    }
+    Ok(())
+}
+
+/// Runs all threads until the operator ends the member, and one more that tells the log what is to
+/// be told. Where the system refuses that one all is told at the end.
+fn run_logged<D: Disk + Send, J: Life + Send + Sync, O: Operator, L: Log + Send, R: Machine>(
+    rt: &R,
+    operator: &mut O,
+    log: &Mutex<L>,
+    shared: &Shared<D, J>,
+    doors: &Doors,
+) -> Result<(), RunFault> {
+    let tells = || shared.logger.tell_on(rt, shared.alloc, &shared.ending, log);
+    let runs = || run_threads(rt, operator, shared, doors);
+    let ((), ended) = thread::join(rt, tells, runs);
+    shared.end_log(rt, log);
+    ended
+}
+
+/// Dials each member, itself too, in a thread of its own, and runs the other threads until the
+/// operator ends the member, where all of these were started. Ends all threads.
+fn run_threads<D: Disk + Send, J: Life + Send + Sync, O: Operator, R: Machine>(
+    rt: &R,
+    operator: &mut O,
+    shared: &Shared<D, J>,
+    doors: &Doors,
+) -> Result<(), RunFault> {
+    thread::scope(thread::scope_env(), rt, |scope| -> Result<(), RunFault> {
+        let mut peer = 0u8;
+        for _ in 0..u64::MAX {
+            let Some(address) = shared.address_of(peer) else {
+                break;
+            };
+            if scope
+                .spawn(move || shared.dial_on(rt, peer, address))
+                .is_err()
+            {
+                break;
+            }
+            peer = peer.saturating_add(1);
+        }
+        run_clock(
+            rt,
+            operator,
+            shared,
+            doors,
+            shared.address_of(peer).is_none(),
+        )
+    })
+}
+
+/// Runs the clock until the operator ends the member, where the diallers were started, and ends all
+/// threads.
+fn run_clock<D: Disk + Send, J: Life + Send + Sync, O: Operator, R: Machine>(
+    rt: &R,
+    operator: &mut O,
+    shared: &Shared<D, J>,
+    doors: &Doors,
+    dials: bool,
+) -> Result<(), RunFault> {
+    thread::scope(thread::scope_env(), rt, |scope| -> Result<(), RunFault> {
+        let clock = scope.spawn(move || shared.tick_on(rt)).is_ok();
+        run_links(rt, operator, shared, doors, dials && clock)
+    })
+}
+
+/// Takes links in until the operator ends the member, where all threads before were started, and
+/// ends all threads.
+fn run_links<D: Disk + Send, J: Life + Send + Sync, O: Operator, R: Machine>(
+    rt: &R,
+    operator: &mut O,
+    shared: &Shared<D, J>,
+    doors: &Doors,
+    started: bool,
+) -> Result<(), RunFault> {
+    thread::scope(thread::scope_env(), rt, |scope| -> Result<(), RunFault> {
+        let listener = &doors.links.listener;
+        let links = scope
+            .spawn(move || accept_links(rt, shared, listener))
+            .is_ok();
+        run_desk(rt, operator, shared, doors, started && links)
+    })
+}
+
+/// Takes clients in until the operator ends the member, where all threads before were started, and
+/// ends all threads.
+fn run_desk<D: Disk + Send, J: Life + Send + Sync, O: Operator, R: Machine>(
+    rt: &R,
+    operator: &mut O,
+    shared: &Shared<D, J>,
+    doors: &Doors,
+    started: bool,
+) -> Result<(), RunFault> {
+    thread::scope(thread::scope_env(), rt, |scope| -> Result<(), RunFault> {
+        let listener = &doors.desk.listener;
+        let clients = scope
+            .spawn(move || accept_clients(rt, shared, listener))
+            .is_ok();
+        run_followers(rt, operator, shared, doors, started && clients)
+    })
+}
+
+/// Tells followers until the operator ends the member, where all threads before were started, and
+/// ends all threads.
+fn run_followers<D: Disk + Send, J: Life + Send + Sync, O: Operator, R: Machine>(
+    rt: &R,
+    operator: &mut O,
+    shared: &Shared<D, J>,
+    doors: &Doors,
+    started: bool,
+) -> Result<(), RunFault> {
+    thread::scope(thread::scope_env(), rt, |scope| -> Result<(), RunFault> {
+        let tells = scope.spawn(move || shared.follow_on(rt)).is_ok();
+        run_local(rt, operator, shared, doors, started && tells)
+    })
+}
+
+/// Takes clients of this machine in, if they have a door, and waits for the operator to end the
+/// member, where all other threads were started. Ends all threads.
+fn run_local<D: Disk + Send, J: Life + Send + Sync, O: Operator, R: Machine>(
+    rt: &R,
+    operator: &mut O,
+    shared: &Shared<D, J>,
+    doors: &Doors,
+    started: bool,
+) -> Result<(), RunFault> {
+    thread::scope(thread::scope_env(), rt, |scope| -> Result<(), RunFault> {
+        let locals = match &doors.local {
+            Some(door) => {
+                let listener = &door.listener;
+                scope
+                    .spawn(move || accept_clients(rt, shared, listener))
+                    .is_ok()
+            }
+            None => true,
+        };
+        let end = if started && locals {
+            operator.until_end()
+        } else {
+            operator.unstarted();
+            Err(RunFault::Memory)
+        };
+        shared.close(rt);
+        doors.shut(rt);
+        end
+    })
+}
+
+/// Takes the book out of what the threads shared, once they have ended, and compares its history
+/// with what the sessions of each link handed in.
+///
+/// # Errors
+///
+/// [`RunFault::Torn`]: they differ.
+fn settle<D: Disk + Drop, J: Life>(shared: Shared<D, J>) -> Result<Ended<D>, RunFault>
+    ensures opening { IfOk result (λ ended. ended.opening ≡ J.opening) }
+    ensures header { IfOk result (λ ended. member_header ended.member ≡ J.header) }
+    ensures replay { IfOk result
+        (λ ended. IsReplayed ended.member ended.opening ended.history) }
+{
+    let (hub, seats) = shared.into_parts();
+    match close(hub, seats.into_seats()) {
+        Ok(closing) => Ok(closing.end()),
+        Err(_) => Err(RunFault::Torn),
+    }
+}
+
+/// Binds a listener. The operator is told why there is none.
+pub(crate) fn listen<O: Operator, R: Machine>(
+    rt: &R,
+    address: SocketAddr,
+    operator: &mut O,
+) -> Result<Door, RunFault>
+    ensures { IfOk result (λ _. operator.new ≡ operator.old) }
+{
+    match door(rt, address) {
+        Ok(door) => Ok(door),
+        Err(error) => {
+            operator.unheard(address, &error);
+            Err(RunFault::Listen)
+        }
+    }
+}
+
+/// The door of clients of this machine, if anything listens for them.
+pub(crate) fn local_door(local: Option<UnixListener>) -> Result<Option<Door>, RunFault> {
+    let Some(listener) = local else {
+        return Ok(None);
+    };
+    match Door::new(Listener::Unix(listener)) {
+        Ok(door) => Ok(Some(door)),
+        Err(_) => Err(RunFault::Listen),
+    }
+}
+
+/// A listener at this address, and what shuts it down.
+fn door<R: Machine>(rt: &R, address: SocketAddr) -> io::Result<Door> {
+    Door::new(Listener::Tcp(TcpListener::bind(rt, address)?))
 }

@@ -22,15 +22,6 @@ pub(crate) struct Seats<J: Life> {
     rack: Rack<J>,
 }
 
-/// The seat of a member that has greeted from a host that may speak for it, by the peers that the
-/// run was given.
-#[derive(Drop)]
-pub(crate) struct Seated<J: Life> {
-    seat: Seat<J>,
-    host: IpAddr,
-    ghost may_speak: { MaySpeak J.addresses J.hosts seat.peer host },
-}
-
 impl<J: Life> Seats<J> {
     /// The seats of a hub that was just opened.
     pub(crate) fn new(seats: Vec<Seat<J>>) -> Seats<J> {
@@ -61,6 +52,15 @@ impl<J: Life> Seats<J> {
         let Seated { seat, host: _ } = seated;
         self.rack.put(rt, seat);
     }
+}
+
+/// The seat of a member that has greeted from a host that may speak for it, by the peers that the
+/// run was given.
+#[derive(Drop)]
+pub(crate) struct Seated<J: Life> {
+    seat: Seat<J>,
+    host: IpAddr,
+    ghost may_speak: { MaySpeak J.addresses J.hosts seat.peer host },
 }
 
 impl<J: Life> Seated<J> {

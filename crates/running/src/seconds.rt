@@ -19,13 +19,6 @@ pub(crate) enum Call {
     Answered,
 }
 
-/// The second that it is, counted from the start of the run, and the call of each peer within it.
-#[derive(Clone, Copy, Debug, PartialEq, Eq)]
-pub(crate) struct Seconds {
-    second: u64,
-    calls: [Call; MEMBERS],
-}
-
 impl Call {
     /// Returns the call once a link of the peer has begun.
     fn after_link(self) -> Call
@@ -55,6 +48,13 @@ impl Call {
     {
         matches!(self, Call::Due)
     }
+}
+
+/// The second that it is, counted from the start of the run, and the call of each peer within it.
+#[derive(Clone, Copy, Debug, PartialEq, Eq)]
+pub(crate) struct Seconds {
+    second: u64,
+    calls: [Call; MEMBERS],
 }
 
 impl Seconds {
@@ -93,6 +93,16 @@ impl Seconds {
         }
     }
 
+    /// Says if the pause behind a dialling of the peer in that second is over. A call of the peer
+    /// ends it once.
+    pub(crate) fn is_over(&mut self, peer: u8, dialled: u64) -> bool
+        ensures over { peer < 64 → result ≡ is_over self.old peer dialled }
+        ensures answered { peer < 64 → self.new ≡ changed self.old peer after_answer }
+    {
+        let is_due = self.answer(peer);
+        self.second != dialled || is_due
+    }
+
     /// Takes the call of the peer, if one is due.
     fn answer(&mut self, peer: u8) -> bool
         ensures due { peer < 64 → result ≡ is_due (get_or self.old.calls peer Silent) }
@@ -105,15 +115,5 @@ impl Seconds {
         let call = self.calls[at];
         self.calls[at] = call.after_answer();
         call.is_due()
-    }
-
-    /// Says if the pause behind a dialling of the peer in that second is over. A call of the peer
-    /// ends it once.
-    pub(crate) fn is_over(&mut self, peer: u8, dialled: u64) -> bool
-        ensures over { peer < 64 → result ≡ is_over self.old peer dialled }
-        ensures answered { peer < 64 → self.new ≡ changed self.old peer after_answer }
-    {
-        let is_due = self.answer(peer);
-        self.second != dialled || is_due
     }
 }

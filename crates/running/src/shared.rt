@@ -76,11 +76,6 @@ impl<D: Disk, J: Life> Shared<D, J> {
         (hub, seats)
     }
 
-    /// Returns `true` if the member is coming to its end.
-    pub(crate) fn is_closing(&self) -> bool {
-        self.ending.has_begun()
-    }
-
     /// Brings the member to its end: who waits for a tick or for the bell goes on, and each socket
     /// is shut down. One that hasn't spoken yet never does.
     pub(crate) fn close<R: Machine>(&self, rt: &R) {
@@ -92,12 +87,6 @@ impl<D: Disk, J: Life> Shared<D, J> {
         self.call_teller_of_followers(rt);
     }
 
-    /// Wakes the thread that tells followers, if it waits for somebody to follow.
-    fn call_teller_of_followers<R: Wait>(&self, rt: &R) {
-        let _followers = self.followers.lock(rt);
-        self.followed.notify_all();
-    }
-
     /// A member that listens still is stopped, so that who waits for it to speak says nothing.
     fn end_unheard<R: Machine>(&self, rt: &R) {
         if self.hub.is_listening() {
@@ -107,22 +96,16 @@ impl<D: Disk, J: Life> Shared<D, J> {
         }
     }
 
+    /// Wakes the thread that tells followers, if it waits for somebody to follow.
+    fn call_teller_of_followers<R: Wait>(&self, rt: &R) {
+        let _followers = self.followers.lock(rt);
+        self.followed.notify_all();
+    }
+
     /// The member listens before it speaks, unless it is told not to, or has nobody to listen to.
     pub(crate) fn listen<R: Machine>(&self, rt: &R) {
         self.hub.listen(rt);
         self.speak_if_due(rt);
-    }
-
-    /// Has the member speak once n - t - 1 others have welcomed it, or it has listened for long
-    /// enough.
-    fn speak_if_due<R: Wait>(&self, rt: &R) {
-        if !self.hub.is_listening() || self.is_closing() {
-            return;
-        }
-        let welcomed = *self.welcomes.lock(rt);
-        if welcomed.are_enough(self.hub.header().size()) || self.clock.second(rt) >= self.patience {
-            self.hub.speak(rt);
-        }
     }
 
     /// A peer has welcomed the link to it, and has heard so many statements more of this member
@@ -139,18 +122,6 @@ impl<D: Disk, J: Life> Shared<D, J> {
         }
         self.welcomes.lock(rt).add(header.size(), peer);
         self.speak_if_due(rt);
-    }
-
-    /// Returns `true` if more than t members have heard more of this one than its journal holds.
-    pub(crate) fn is_forgotten<R: Wait>(&self, rt: &R) -> bool {
-        self.ahead.lock(rt).is_forgotten()
-    }
-
-    /// Stops a member that has forgotten what it said, before it says more.
-    fn stop_if_forgotten<R: Wait>(&self, rt: &R) {
-        if self.is_forgotten(rt) {
-            self.hub.stop(rt);
-        }
     }
 
     /// Ticks and rings the bell about once a second, pays for early Initials, and gives peers up
@@ -172,6 +143,35 @@ impl<D: Disk, J: Life> Shared<D, J> {
             self.report(rt);
         }
         unreachable!()
+    }
+
+    /// Stops a member that has forgotten what it said, before it says more.
+    fn stop_if_forgotten<R: Wait>(&self, rt: &R) {
+        if self.is_forgotten(rt) {
+            self.hub.stop(rt);
+        }
+    }
+
+    /// Has the member speak once n - t - 1 others have welcomed it, or it has listened for long
+    /// enough.
+    fn speak_if_due<R: Wait>(&self, rt: &R) {
+        if !self.hub.is_listening() || self.is_closing() {
+            return;
+        }
+        let welcomed = *self.welcomes.lock(rt);
+        if welcomed.are_enough(self.hub.header().size()) || self.clock.second(rt) >= self.patience {
+            self.hub.speak(rt);
+        }
+    }
+
+    /// Returns `true` if the member is coming to its end.
+    pub(crate) fn is_closing(&self) -> bool {
+        self.ending.has_begun()
+    }
+
+    /// Returns `true` if more than t members have heard more of this one than its journal holds.
+    pub(crate) fn is_forgotten<R: Wait>(&self, rt: &R) -> bool {
+        self.ahead.lock(rt).is_forgotten()
     }
 }
 

@@ -1,4 +1,4 @@
-//! A client of a chain that follows decisions: begin at `follow`, last.
+//! A client of a chain that follows decisions: begin at `follow`.
 
 use crate::epoch::InChain;
 use crate::life::Life;
@@ -18,6 +18,42 @@ use std::time::Duration;
 /// The most epochs of which a follower is told late decisions.
 const LEFT: usize = 16;
 
+/// Tells a client each decision from that number on: by epochs, and within one in the order of its
+/// journal. Returns the epoch in which it goes on, the newest if none is named, and the line by
+/// which it does; none if its session ends.
+pub(crate) fn follow<D: Disk, J: Life, R: Machine>(
+    rt: &R,
+    shared: &Shared<D, J>,
+    chain: &InChain,
+    socket: &mut TcpStream,
+    from: u64,
+) -> Option<(Option<u64>, Said)> {
+    let mut follower = SlotFollower {
+        next: from,
+        left: Vec::new(shared.alloc),
+        told: shared.hub.seconds(),
+    };
+    for _ in rt.forever() {
+        let decided = shared.hub.decided();
+        if shared.is_closing() {
+            return None;
+        }
+        match follower.turn(rt, shared, chain, socket)? {
+            Turn::Goes => {}
+            Turn::Elsewhere(epoch) => return Some((Some(epoch), follower.line(shared.alloc)?)),
+            Turn::Waits => {
+                if chain.board.is_over(rt, chain.epoch) {
+                    return Some((None, follower.line(shared.alloc)?));
+                }
+                follower.tell_late(rt, shared, chain, socket)?;
+                follower.tell_silence(shared, socket)?;
+                follower.rest(rt, shared, chain, decided);
+            }
+        }
+    }
+    unreachable!()
+}
+
 /// A follower: the number of the decision that it is told next, and those of epochs that it passed
 /// and in which questions were open.
 #[derive(Drop)]
@@ -28,76 +64,7 @@ struct SlotFollower {
     told: u64,
 }
 
-/// The end of a turn of a follower.
-enum Turn {
-    /// The follower was told a decision, or passed an epoch.
-    Goes,
-    /// There is none to tell yet.
-    Waits,
-    /// The next one is that of this epoch, which runs.
-    Elsewhere(u64),
-}
-
-/// Writes the line of a decision of a slot; none if it can't be written.
-fn write_decision(alloc: Global, socket: &mut TcpStream, slot: u64, bit: bool) -> Option<()> {
-    let Ok(line) = format!(in alloc; "DECIDED {slot} {}\n", u8::from(bit)) else {
-        return None;
-    };
-    match socket.write_all(line.as_bytes()) {
-        Ok(()) => Some(()),
-        Err(_) => None,
-    }
-}
-
-/// Returns the decision of that number: one of this epoch, or of one that doesn't run.
-fn decision_at<D: Disk, J: Life, R: Machine>(
-    rt: &R,
-    shared: &Shared<D, J>,
-    chain: &InChain,
-    number: u64,
-) -> Option<(Slot, bool)> {
-    let Slot {
-        epoch,
-        question: at,
-    } = chain.board.chain().slot_of(number);
-    let (question, bit) = if epoch == chain.epoch {
-        let decision = shared.hub.decision(rt, u64::from(at))?;
-        (decision.question, decision.bit)
-    } else if chain.board.runs(rt, epoch) {
-        return None;
-    } else {
-        chain.board.decided_at(rt, epoch, at)?
-    };
-    Some((Slot { epoch, question }, bit))
-}
-
-/// Tells a decision; none if it can't be told.
-fn tell<D: Disk, J: Life>(
-    shared: &Shared<D, J>,
-    chain: &InChain,
-    socket: &mut TcpStream,
-    decided: (Slot, bool),
-) -> Option<()> {
-    let (slot, bit) = decided;
-    let number = chain.board.chain().number_of(slot)?;
-    write_decision(shared.alloc, socket, number, bit)
-}
-
 impl SlotFollower {
-    /// Passes the epoch of the next number: decisions that come late are told too.
-    fn pass(&mut self, chain: &InChain, epoch: u64) -> Option<Turn> {
-        if self.left.len() >= LEFT {
-            self.left.remove(0);
-        }
-        let _forgotten = self.left.push(self.next).is_err();
-        let first = Slot {
-            epoch: epoch.checked_add(1)?,
-            question: 0,
-        };
-        self.next = chain.board.chain().number_of(first)?;
-        Some(Turn::Goes)
-    }
-
     /// Tells the next decision, if there is one; none if it can't be told.
     fn turn<D: Disk, J: Life, R: Machine>(
         &mut self,
@@ -121,6 +88,20 @@ impl SlotFollower {
             return Some(Turn::Elsewhere(epoch));
         }
         Some(Turn::Waits)
+    }
+
+    /// Passes the epoch of the next number: decisions that come late are told too.
+    fn pass(&mut self, chain: &InChain, epoch: u64) -> Option<Turn> {
+        if self.left.len() >= LEFT {
+            self.left.remove(0);
+        }
+        let _forgotten = self.left.push(self.next).is_err();
+        let first = Slot {
+            epoch: epoch.checked_add(1)?,
+            question: 0,
+        };
+        self.next = chain.board.chain().number_of(first)?;
+        Some(Turn::Goes)
     }
 
     /// Tells a decision that came late in an epoch that was passed, if there is one; none if it
@@ -184,38 +165,57 @@ impl SlotFollower {
     }
 }
 
-/// Tells a client each decision from that number on: by epochs, and within one in the order of its
-/// journal. Returns the epoch in which it goes on, the newest if none is named, and the line by
-/// which it does; none if its session ends.
-pub(crate) fn follow<D: Disk, J: Life, R: Machine>(
+/// The end of a turn of a follower.
+enum Turn {
+    /// The follower was told a decision, or passed an epoch.
+    Goes,
+    /// There is none to tell yet.
+    Waits,
+    /// The next one is that of this epoch, which runs.
+    Elsewhere(u64),
+}
+
+/// Returns the decision of that number: one of this epoch, or of one that doesn't run.
+fn decision_at<D: Disk, J: Life, R: Machine>(
     rt: &R,
     shared: &Shared<D, J>,
     chain: &InChain,
-    socket: &mut TcpStream,
-    from: u64,
-) -> Option<(Option<u64>, Said)> {
-    let mut follower = SlotFollower {
-        next: from,
-        left: Vec::new(shared.alloc),
-        told: shared.hub.seconds(),
+    number: u64,
+) -> Option<(Slot, bool)> {
+    let Slot {
+        epoch,
+        question: at,
+    } = chain.board.chain().slot_of(number);
+    let (question, bit) = if epoch == chain.epoch {
+        let decision = shared.hub.decision(rt, u64::from(at))?;
+        (decision.question, decision.bit)
+    } else if chain.board.runs(rt, epoch) {
+        return None;
+    } else {
+        chain.board.decided_at(rt, epoch, at)?
     };
-    for _ in rt.forever() {
-        let decided = shared.hub.decided();
-        if shared.is_closing() {
-            return None;
-        }
-        match follower.turn(rt, shared, chain, socket)? {
-            Turn::Goes => {}
-            Turn::Elsewhere(epoch) => return Some((Some(epoch), follower.line(shared.alloc)?)),
-            Turn::Waits => {
-                if chain.board.is_over(rt, chain.epoch) {
-                    return Some((None, follower.line(shared.alloc)?));
-                }
-                follower.tell_late(rt, shared, chain, socket)?;
-                follower.tell_silence(shared, socket)?;
-                follower.rest(rt, shared, chain, decided);
-            }
-        }
+    Some((Slot { epoch, question }, bit))
+}
+
+/// Tells a decision; none if it can't be told.
+fn tell<D: Disk, J: Life>(
+    shared: &Shared<D, J>,
+    chain: &InChain,
+    socket: &mut TcpStream,
+    decided: (Slot, bool),
+) -> Option<()> {
+    let (slot, bit) = decided;
+    let number = chain.board.chain().number_of(slot)?;
+    write_decision(shared.alloc, socket, number, bit)
+}
+
+/// Writes the line of a decision of a slot; none if it can't be written.
+fn write_decision(alloc: Global, socket: &mut TcpStream, slot: u64, bit: bool) -> Option<()> {
+    let Ok(line) = format!(in alloc; "DECIDED {slot} {}\n", u8::from(bit)) else {
+        return None;
+    };
+    match socket.write_all(line.as_bytes()) {
+        Ok(()) => Some(()),
+        Err(_) => None,
     }
-    unreachable!()
 }

@@ -83,55 +83,6 @@ pub(crate) struct SlotStream<'a, D: Disk, J: Life, R> {
     trace: GhostRecord<Trace>,
 }
 
-/// The lines of such a client.
-#[derive(Drop)]
-struct SlotLines<'a, D: Disk, J: Life, R> {
-    rt: &'a R,
-    shared: &'a Shared<D, J>,
-    chain: &'a InChain,
-    slot: u8,
-    socket: TcpStream,
-    /// Bytes that were read and aren't answered.
-    said: Said,
-    /// Bytes that the desk reads next.
-    out: Said,
-    away: Option<Away>,
-    /// The seconds that it has said nothing.
-    silent: u64,
-    /// The second in which the first line began to wait, if it does.
-    waits: Option<u64>,
-}
-
-/// Returns what becomes of a line on a slot of an epoch that doesn't run.
-fn stored_turn(stored: Stored, verb: Verb, epoch: u64) -> Turn {
-    match (stored, verb) {
-        (Stored::Gone, _) => Turn::Reply(Stock::Gone),
-        (Stored::Far, Verb::Propose) => Turn::Reply(Stock::NoQuestion),
-        (Stored::Decided(bit), Verb::Ask | Verb::Await | Verb::State) => {
-            Turn::Reply(Stock::Decided(bit))
-        }
-        (Stored::Open | Stored::Ahead | Stored::Far, Verb::Ask) => Turn::Reply(Stock::Undecided),
-        (Stored::Ahead | Stored::Far, Verb::Transcript) => Turn::Reply(Stock::Undecided),
-        (Stored::Ahead | Stored::Far, Verb::State) => Turn::Reply(Stock::Unproposed),
-        (Stored::Ahead | Stored::Far, Verb::Await) => Turn::Waits,
-        (Stored::Decided(_), Verb::Propose | Verb::Transcript) => Turn::Away(epoch),
-        (Stored::Ahead, Verb::Propose) => Turn::Away(epoch),
-        (Stored::Open, Verb::Propose | Verb::Await | Verb::Transcript | Verb::State) => {
-            Turn::Away(epoch)
-        }
-    }
-}
-
-/// Copies the front of what the desk reads next into the buffer, and returns how many bytes.
-fn take_out(out: &mut Said, buf: &mut [u8]) -> usize
-    ensures { result ≤ length buf.new }
-{
-    let count = out.bytes().len().min(buf.len());
-    buf[..count].copy_from_slice(&out.bytes()[..count]);
-    out.drop_front(count);
-    count
-}
-
 impl<'a, D: Disk, J: Life, R: Wait> SlotStream<'a, D, J, R> {
     /// Returns the stream of the client in this chair, over a copy of its socket.
     pub(crate) fn new(
@@ -165,189 +116,6 @@ impl<'a, D: Disk, J: Life, R: Wait> SlotStream<'a, D, J, R> {
             Some(away) => Some((away, self.lines.said)),
             None => None,
         }
-    }
-}
-
-impl<D: Disk, J: Life, R: Wait> SlotLines<'_, D, J, R> {
-    /// Returns what becomes of a line that names a slot.
-    fn turn_slot(&self, line: &SlotLine<'_>) -> Turn {
-        let Some(number) = line.slot else {
-            return Turn::Reply(Stock::NoQuestion);
-        };
-        let slot = self.chain.board.chain().slot_of(number);
-        if slot.epoch == self.chain.epoch {
-            if line.proposes() {
-                self.chain.board.note_proposal(self.rt, slot.epoch);
-            }
-            return Turn::Here(line.for_question(slot.question));
-        }
-        match self.chain.board.stored(self.rt, slot.epoch, slot.question) {
-            // The desk of this epoch says what is wrong with it.
-            Some(_) if !line.is_whole() => Turn::Here(line.for_question(0)),
-            Some(stored) => {
-                if stored == Stored::Ahead && line.verb == Verb::Propose {
-                    self.chain.board.note_proposal(self.rt, slot.epoch);
-                }
-                stored_turn(stored, line.verb, slot.epoch)
-            }
-            None => Turn::Away(slot.epoch),
-        }
-    }
-
-    /// Returns what becomes of the line of so many bytes that was read.
-    fn turn_line(&self, length: usize) -> Turn {
-        let bytes = self.said.bytes();
-        let line = &bytes[..length.min(bytes.len())];
-        if let Some(number) = follow_line(line) {
-            return Turn::Follows(number);
-        }
-        match slot_line(line) {
-            Some(line) => self.turn_slot(&line),
-            None if asks_epochs(line) => Turn::Epochs,
-            None => {
-                let mut plain = Said::nothing();
-                plain.extend(line);
-                Turn::Here(plain)
-            }
-        }
-    }
-
-    /// Hands the line of so many bytes to the desk, answers it, or keeps it for another epoch.
-    fn step_line(&mut self, length: usize, end: &[u8]) -> Result<bool, StreamFault> {
-        match self.turn_line(length) {
-            Turn::Here(text) => {
-                self.out.extend(text.bytes());
-                self.out.extend(end);
-            }
-            Turn::Reply(stock) => {
-                if self.socket.write_all(stock.text().as_bytes()).is_err() {
-                    return Err(StreamFault);
-                }
-            }
-            Turn::Epochs => self.tell_epochs()?,
-            Turn::Away(epoch) => {
-                self.away = Some(Away::To(epoch));
-                return Ok(false);
-            }
-            Turn::Waits => return self.wait_on(),
-            Turn::Follows(number) => {
-                self.away = Some(Away::Follows(number));
-                self.said = Said::nothing();
-                return Ok(false);
-            }
-        }
-        self.waits = None;
-        self.said.drop_front(length.saturating_add(end.len()));
-        Ok(true)
-    }
-
-    /// Says the first epoch that isn't closed here, and the newest.
-    fn tell_epochs(&mut self) -> Result<(), StreamFault> {
-        let board = &self.chain.board;
-        let reply = epochs_reply(board.first_open(self.rt), board.newest(self.rt));
-        match self.socket.write_all(reply.bytes()) {
-            Ok(()) => Ok(()),
-            Err(_) => Err(StreamFault),
-        }
-    }
-
-    /// Waits for a change, after which the line is looked at anew. After ten seconds it is
-    /// answered.
-    fn wait_on(&mut self) -> Result<bool, StreamFault> {
-        let now = self.shared.hub.seconds();
-        let begun = *self.waits.get_or_insert(now);
-        if now.saturating_sub(begun) < EPOCH_LIMIT && !self.chain.board.is_ended() {
-            self.chain.board.await_change(self.rt);
-            return Ok(true);
-        }
-        self.waits = None;
-        if self.socket.write_all(b"UNDECIDED\n").is_err() {
-            return Err(StreamFault);
-        }
-        let length = self.said.line_end().unwrap_or(self.said.bytes().len());
-        self.said.drop_front(length.saturating_add(1));
-        Ok(true)
-    }
-
-    /// A second has passed in silence: `false` if the client is to leave.
-    fn note_silence(&mut self) -> Result<bool, StreamFault> {
-        self.silent = self.silent.saturating_add(1);
-        if self.silent >= CLIENT_SILENCE {
-            return Err(StreamFault);
-        }
-        if self.chain.board.is_over(self.rt, self.chain.epoch) {
-            self.away = Some(Away::ToNewest);
-            return Ok(false);
-        }
-        Ok(true)
-    }
-
-    /// Reads more: `false` at the end of the input, or if the client is to leave.
-    fn fill(&mut self) -> Result<bool, StreamFault> {
-        let mut piece = [0u8; PIECE];
-        let room = self.said.room().min(PIECE);
-        match self.socket.read(&mut piece[..room]) {
-            Ok(0) => {
-                let left = self.said.bytes().len();
-                if left == 0 {
-                    return Ok(false);
-                }
-                self.step_line(left, b"")
-            }
-            Ok(count) => {
-                self.silent = 0;
-                self.shared.hear_client(self.rt, self.slot);
-                self.said.extend(&piece[..count.min(room)]);
-                Ok(true)
-            }
-            Err(error) => {
-                if is_passing(error.kind()) {
-                    return self.note_silence();
-                }
-                Err(StreamFault)
-            }
-        }
-    }
-
-    /// Goes on until the desk has bytes to read: `false` if there are none to come.
-    fn step(&mut self) -> Result<bool, StreamFault> {
-        match self.said.line_end() {
-            Some(length) => self.step_line(length, b"\n"),
-            None if self.said.room() == 0 => {
-                self.out = self.said;
-                self.said = Said::nothing();
-                Ok(true)
-            }
-            None => self.fill(),
-        }
-    }
-
-    /// Returns `true` if the desk is to read the next line together with those that it reads next:
-    /// it was read already, this epoch's desk answers it, and there is room.
-    fn has_another(&self) -> bool {
-        let Some(length) = self.said.line_end() else {
-            return false;
-        };
-        if length >= self.out.room() {
-            return false;
-        }
-        match self.turn_line(length) {
-            Turn::Here(_) => true,
-            Turn::Reply(_) | Turn::Epochs | Turn::Waits | Turn::Away(_) | Turn::Follows(_) => false,
-        }
-    }
-
-    /// Goes on until the desk has bytes to read, or there are none to come.
-    fn advance(&mut self) -> Result<(), StreamFault> {
-        for _ in self.rt.forever() {
-            if !self.out.bytes().is_empty() && !self.has_another() {
-                return Ok(());
-            }
-            if !self.step()? {
-                return Ok(());
-            }
-        }
-        unreachable!()
     }
 }
 
@@ -394,4 +162,236 @@ impl<D: Disk, J: Life, R: Wait> Stream for SlotStream<'_, D, J, R> {
         shut(&self.lines.socket);
         self.closed = true;
     }
+}
+
+/// The lines of such a client.
+#[derive(Drop)]
+struct SlotLines<'a, D: Disk, J: Life, R> {
+    rt: &'a R,
+    shared: &'a Shared<D, J>,
+    chain: &'a InChain,
+    slot: u8,
+    socket: TcpStream,
+    /// Bytes that were read and aren't answered.
+    said: Said,
+    /// Bytes that the desk reads next.
+    out: Said,
+    away: Option<Away>,
+    /// The seconds that it has said nothing.
+    silent: u64,
+    /// The second in which the first line began to wait, if it does.
+    waits: Option<u64>,
+}
+
+impl<D: Disk, J: Life, R: Wait> SlotLines<'_, D, J, R> {
+    /// Goes on until the desk has bytes to read, or there are none to come.
+    fn advance(&mut self) -> Result<(), StreamFault> {
+        for _ in self.rt.forever() {
+            if !self.out.bytes().is_empty() && !self.has_another() {
+                return Ok(());
+            }
+            if !self.step()? {
+                return Ok(());
+            }
+        }
+        unreachable!()
+    }
+
+    /// Returns `true` if the desk is to read the next line together with those that it reads next:
+    /// it was read already, this epoch's desk answers it, and there is room.
+    fn has_another(&self) -> bool {
+        let Some(length) = self.said.line_end() else {
+            return false;
+        };
+        if length >= self.out.room() {
+            return false;
+        }
+        match self.turn_line(length) {
+            Turn::Here(_) => true,
+            Turn::Reply(_) | Turn::Epochs | Turn::Waits | Turn::Away(_) | Turn::Follows(_) => false,
+        }
+    }
+
+    /// Goes on until the desk has bytes to read: `false` if there are none to come.
+    fn step(&mut self) -> Result<bool, StreamFault> {
+        match self.said.line_end() {
+            Some(length) => self.step_line(length, b"\n"),
+            None if self.said.room() == 0 => {
+                self.out = self.said;
+                self.said = Said::nothing();
+                Ok(true)
+            }
+            None => self.fill(),
+        }
+    }
+
+    /// Reads more: `false` at the end of the input, or if the client is to leave.
+    fn fill(&mut self) -> Result<bool, StreamFault> {
+        let mut piece = [0u8; PIECE];
+        let room = self.said.room().min(PIECE);
+        match self.socket.read(&mut piece[..room]) {
+            Ok(0) => {
+                let left = self.said.bytes().len();
+                if left == 0 {
+                    return Ok(false);
+                }
+                self.step_line(left, b"")
+            }
+            Ok(count) => {
+                self.silent = 0;
+                self.shared.hear_client(self.rt, self.slot);
+                self.said.extend(&piece[..count.min(room)]);
+                Ok(true)
+            }
+            Err(error) => {
+                if is_passing(error.kind()) {
+                    return self.note_silence();
+                }
+                Err(StreamFault)
+            }
+        }
+    }
+
+    /// Hands the line of so many bytes to the desk, answers it, or keeps it for another epoch.
+    fn step_line(&mut self, length: usize, end: &[u8]) -> Result<bool, StreamFault> {
+        match self.turn_line(length) {
+            Turn::Here(text) => {
+                self.out.extend(text.bytes());
+                self.out.extend(end);
+            }
+            Turn::Reply(stock) => {
+                if self.socket.write_all(stock.text().as_bytes()).is_err() {
+                    return Err(StreamFault);
+                }
+            }
+            Turn::Epochs => self.tell_epochs()?,
+            Turn::Away(epoch) => {
+                self.away = Some(Away::To(epoch));
+                return Ok(false);
+            }
+            Turn::Waits => return self.wait_on(),
+            Turn::Follows(number) => {
+                self.away = Some(Away::Follows(number));
+                self.said = Said::nothing();
+                return Ok(false);
+            }
+        }
+        self.waits = None;
+        self.said.drop_front(length.saturating_add(end.len()));
+        Ok(true)
+    }
+
+    /// Returns what becomes of the line of so many bytes that was read.
+    fn turn_line(&self, length: usize) -> Turn {
+        let bytes = self.said.bytes();
+        let line = &bytes[..length.min(bytes.len())];
+        if let Some(number) = follow_line(line) {
+            return Turn::Follows(number);
+        }
+        match slot_line(line) {
+            Some(line) => self.turn_slot(&line),
+            None if asks_epochs(line) => Turn::Epochs,
+            None => {
+                let mut plain = Said::nothing();
+                plain.extend(line);
+                Turn::Here(plain)
+            }
+        }
+    }
+
+    /// Returns what becomes of a line that names a slot.
+    fn turn_slot(&self, line: &SlotLine<'_>) -> Turn {
+        let Some(number) = line.slot else {
+            return Turn::Reply(Stock::NoQuestion);
+        };
+        let slot = self.chain.board.chain().slot_of(number);
+        if slot.epoch == self.chain.epoch {
+            if line.proposes() {
+                self.chain.board.note_proposal(self.rt, slot.epoch);
+            }
+            return Turn::Here(line.for_question(slot.question));
+        }
+        match self.chain.board.stored(self.rt, slot.epoch, slot.question) {
+            // The desk of this epoch says what is wrong with it.
+            Some(_) if !line.is_whole() => Turn::Here(line.for_question(0)),
+            Some(stored) => {
+                if stored == Stored::Ahead && line.verb == Verb::Propose {
+                    self.chain.board.note_proposal(self.rt, slot.epoch);
+                }
+                stored_turn(stored, line.verb, slot.epoch)
+            }
+            None => Turn::Away(slot.epoch),
+        }
+    }
+
+    /// Says the first epoch that isn't closed here, and the newest.
+    fn tell_epochs(&mut self) -> Result<(), StreamFault> {
+        let board = &self.chain.board;
+        let reply = epochs_reply(board.first_open(self.rt), board.newest(self.rt));
+        match self.socket.write_all(reply.bytes()) {
+            Ok(()) => Ok(()),
+            Err(_) => Err(StreamFault),
+        }
+    }
+
+    /// Waits for a change, after which the line is looked at anew. After ten seconds it is
+    /// answered.
+    fn wait_on(&mut self) -> Result<bool, StreamFault> {
+        let now = self.shared.hub.seconds();
+        let begun = *self.waits.get_or_insert(now);
+        if now.saturating_sub(begun) < EPOCH_LIMIT && !self.chain.board.is_ended() {
+            self.chain.board.await_change(self.rt);
+            return Ok(true);
+        }
+        self.waits = None;
+        if self.socket.write_all(b"UNDECIDED\n").is_err() {
+            return Err(StreamFault);
+        }
+        let length = self.said.line_end().unwrap_or(self.said.bytes().len());
+        self.said.drop_front(length.saturating_add(1));
+        Ok(true)
+    }
+
+    /// A second has passed in silence: `false` if the client is to leave.
+    fn note_silence(&mut self) -> Result<bool, StreamFault> {
+        self.silent = self.silent.saturating_add(1);
+        if self.silent >= CLIENT_SILENCE {
+            return Err(StreamFault);
+        }
+        if self.chain.board.is_over(self.rt, self.chain.epoch) {
+            self.away = Some(Away::ToNewest);
+            return Ok(false);
+        }
+        Ok(true)
+    }
+}
+
+/// Returns what becomes of a line on a slot of an epoch that doesn't run.
+fn stored_turn(stored: Stored, verb: Verb, epoch: u64) -> Turn {
+    match (stored, verb) {
+        (Stored::Gone, _) => Turn::Reply(Stock::Gone),
+        (Stored::Far, Verb::Propose) => Turn::Reply(Stock::NoQuestion),
+        (Stored::Decided(bit), Verb::Ask | Verb::Await | Verb::State) => {
+            Turn::Reply(Stock::Decided(bit))
+        }
+        (Stored::Open | Stored::Ahead | Stored::Far, Verb::Ask) => Turn::Reply(Stock::Undecided),
+        (Stored::Ahead | Stored::Far, Verb::Transcript) => Turn::Reply(Stock::Undecided),
+        (Stored::Ahead | Stored::Far, Verb::State) => Turn::Reply(Stock::Unproposed),
+        (Stored::Ahead | Stored::Far, Verb::Await) => Turn::Waits,
+        (Stored::Decided(_), Verb::Propose | Verb::Transcript) => Turn::Away(epoch),
+        (Stored::Ahead, Verb::Propose) => Turn::Away(epoch),
+        (Stored::Open, Verb::Propose | Verb::Await | Verb::Transcript | Verb::State) => {
+            Turn::Away(epoch)
+        }
+    }
+}
+
+/// Copies the front of what the desk reads next into the buffer, and returns how many bytes.
+fn take_out(out: &mut Said, buf: &mut [u8]) -> usize
+    ensures { result ≤ length buf.new }
+{
+    let count = out.bytes().len().min(buf.len());
+    buf[..count].copy_from_slice(&out.bytes()[..count]);
+    out.drop_front(count);
+    count
 }

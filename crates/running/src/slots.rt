@@ -11,15 +11,6 @@ use std::marker::Model;
 /// The number of slots.
 const SLOTS: usize = CLIENTS as usize;
 
-/// A slot of a client. While it has two sessions, the first of them comes to its end, and the
-/// second waits for it.
-#[derive(Clone, Copy, Drop)]
-struct Slot {
-    sessions: u8,
-    /// The second in which its client was heard last.
-    heard: u64,
-}
-
 /// A slot that is free, and whose client nobody was.
 const UNUSED: Slot = Slot {
     sessions: 0,
@@ -56,69 +47,6 @@ impl Model for Slots {
     ghost Value = { List Slot };
 
     ghost view = { λ it. it.slots };
-}
-
-/// The first of these that is free.
-fn first_free(slots: &[Slot; SLOTS]) -> Option<usize>
-    ensures first { result ≡ position_from is_free 0 slots.now }
-    ensures within { IfSome result (λ free. free < 32) }
-    ensures free { IfSome result (λ free. sessions_at slots.now free ≡ 0) }
-{
-    slots.iter().position(|slot| slot.sessions == 0)
-}
-
-/// Returns `true` if the client of one was heard before that of the other. One that is free, or
-/// whose client is being closed, has no such client.
-fn is_longer_silent(one: &Slot, other: &Slot) -> bool
-    ensures { result ≡ is_longer_silent one.now other.now }
-{
-    one.sessions == 1 && (other.sessions != 1 || one.heard < other.heard)
-}
-
-/// The first one whose client has been silent longest; none if each that has a client is being
-/// closed for another.
-fn longest_silent(slots: &[Slot; SLOTS]) -> Option<usize>
-    ensures some { IfSome result (λ at. IsSilentLongest slots.now at) }
-    ensures within { IfSome result (λ at. at < 32) }
-    ensures none { IfNone result ((at : ℕ) → at < 32 → sessions_at slots.now at ≢ 1) }
-{
-    let mut longest = 0;
-    for at in 1..SLOTS {
-        if is_longer_silent(&slots[at], &slots[longest]) {
-            longest = at;
-        }
-    }
-    if slots[longest].sessions == 1 {
-        Some(longest)
-    } else {
-        None
-    }
-}
-
-/// The one whose client is to be closed for another at that second, and for how many seconds it has
-/// been silent: longest of all, and for more than ten.
-fn gives_way(slots: &[Slot; SLOTS], now: u64) -> Option<(usize, u64)>
-    ensures some { IfSome result (λ found. GivesWay now slots.now found.0 found.1) }
-    ensures within { IfSome result (λ found. found.0 < 32) }
-    ensures none { IfNone result (NoneGivesWay now slots.now) }
-{
-    match longest_silent(slots) {
-        Some(at) => {
-            let silent = now.saturating_sub(slots[at].heard);
-            if silent > SLOT_SILENCE {
-                return Some((at, silent));
-            }
-            None
-        }
-        None => None,
-    }
-}
-
-/// Returns how many clients are let in at once where so many are to be.
-fn let_in(clients: u8) -> usize
-    ensures { result ≡ clients_let_in clients }
-{
-    usize::from(clients.max(1).min(CLIENTS))
 }
 
 impl Slots {
@@ -189,4 +117,76 @@ impl Slots {
             self.slots[at].sessions = self.slots[at].sessions.saturating_sub(1);
         }
     }
+}
+
+/// Returns how many clients are let in at once where so many are to be.
+fn let_in(clients: u8) -> usize
+    ensures { result ≡ clients_let_in clients }
+{
+    usize::from(clients.max(1).min(CLIENTS))
+}
+
+/// The first of these that is free.
+fn first_free(slots: &[Slot; SLOTS]) -> Option<usize>
+    ensures first { result ≡ position_from is_free 0 slots.now }
+    ensures within { IfSome result (λ free. free < 32) }
+    ensures free { IfSome result (λ free. sessions_at slots.now free ≡ 0) }
+{
+    slots.iter().position(|slot| slot.sessions == 0)
+}
+
+/// The one whose client is to be closed for another at that second, and for how many seconds it has
+/// been silent: longest of all, and for more than ten.
+fn gives_way(slots: &[Slot; SLOTS], now: u64) -> Option<(usize, u64)>
+    ensures some { IfSome result (λ found. GivesWay now slots.now found.0 found.1) }
+    ensures within { IfSome result (λ found. found.0 < 32) }
+    ensures none { IfNone result (NoneGivesWay now slots.now) }
+{
+    match longest_silent(slots) {
+        Some(at) => {
+            let silent = now.saturating_sub(slots[at].heard);
+            if silent > SLOT_SILENCE {
+                return Some((at, silent));
+            }
+            None
+        }
+        None => None,
+    }
+}
+
+/// The first one whose client has been silent longest; none if each that has a client is being
+/// closed for another.
+fn longest_silent(slots: &[Slot; SLOTS]) -> Option<usize>
+    ensures some { IfSome result (λ at. IsSilentLongest slots.now at) }
+    ensures within { IfSome result (λ at. at < 32) }
+    ensures none { IfNone result ((at : ℕ) → at < 32 → sessions_at slots.now at ≢ 1) }
+{
+    let mut longest = 0;
+    for at in 1..SLOTS {
+        if is_longer_silent(&slots[at], &slots[longest]) {
+            longest = at;
+        }
+    }
+    if slots[longest].sessions == 1 {
+        Some(longest)
+    } else {
+        None
+    }
+}
+
+/// Returns `true` if the client of one was heard before that of the other. One that is free, or
+/// whose client is being closed, has no such client.
+fn is_longer_silent(one: &Slot, other: &Slot) -> bool
+    ensures { result ≡ is_longer_silent one.now other.now }
+{
+    one.sessions == 1 && (other.sessions != 1 || one.heard < other.heard)
+}
+
+/// A slot of a client. While it has two sessions, the first of them comes to its end, and the
+/// second waits for it.
+#[derive(Clone, Copy, Drop)]
+struct Slot {
+    sessions: u8,
+    /// The second in which its client was heard last.
+    heard: u64,
 }

@@ -29,6 +29,38 @@ struct OpenSocket {
     slot: Option<u8>,
 }
 
+impl OpenSocket {
+    fn tick(&mut self) {
+        match self.patience {
+            Some(left) if left > 1 => self.patience = Some(left - 1),
+            Some(_) => shut(&self.socket),
+            None => {}
+        }
+    }
+
+    /// Shuts the socket down if it is that of a client in that slot, and returns `true` if it is.
+    fn shut_if_of(&self, slot: u8) -> bool {
+        let is_its = self.slot == Some(slot);
+        if is_its {
+            shut(&self.socket);
+        }
+        is_its
+    }
+
+    /// Shuts the socket down if it is one of a link to that member, dialled two ticks before this
+    /// one or earlier, and returns
+    fn shut_if_old_to(&self, peer: u8, now: u64) -> bool {
+        let is_its = match self.to {
+            Some(to) => to.peer == peer && now.saturating_sub(to.tick) >= FRESH_TICKS,
+            None => false,
+        };
+        if is_its {
+            shut(&self.socket);
+        }
+        is_its
+    }
+}
+
 /// The sockets of the sessions that are under way. A session has a copy of its socket, so that a
 /// shutdown here ends a read or write in which its thread waits.
 #[derive(Drop)]
@@ -98,27 +130,6 @@ impl Sockets {
         any
     }
 
-    /// Limits reads of the socket of that number: from now on one fails once it has waited so long.
-    /// Where the system refuses that, the limit stays as it was.
-    pub(crate) fn limit_reads(&self, number: usize, limit: Duration) {
-        if let Some(Some(open)) = self.open.get(number) {
-            let _limited = open.socket.set_read_timeout(Some(limit)).is_ok();
-        }
-    }
-
-    /// Returns how many peers from that member's host are to greet.
-    fn greeting_from(&self, first: u8) -> usize {
-        let mut count = 0usize;
-        for open in &self.open {
-            if let Some(open) = open {
-                if open.patience.is_some() && open.from == Some(first) {
-                    count = count.saturating_add(1);
-                }
-            }
-        }
-        count
-    }
-
     /// Takes in the socket of a peer from that member's host that is to greet within ten ticks,
     /// like `enter_client`; it is closed too where as many peers from there as its share are to
     /// greet already.
@@ -138,6 +149,19 @@ impl Sockets {
             from: Some(first),
             slot: None,
         })
+    }
+
+    /// Returns how many peers from that member's host are to greet.
+    fn greeting_from(&self, first: u8) -> usize {
+        let mut count = 0usize;
+        for open in &self.open {
+            if let Some(open) = open {
+                if open.patience.is_some() && open.from == Some(first) {
+                    count = count.saturating_add(1);
+                }
+            }
+        }
+        count
     }
 
     /// Takes in a socket, by the lowest number that is free.
@@ -163,6 +187,14 @@ impl Sockets {
             open.patience = None;
         }
         self.limit_reads(number, Duration::from_millis(LINK_SILENCE));
+    }
+
+    /// Limits reads of the socket of that number: from now on one fails once it has waited so long.
+    /// Where the system refuses that, the limit stays as it was.
+    pub(crate) fn limit_reads(&self, number: usize, limit: Duration) {
+        if let Some(Some(open)) = self.open.get(number) {
+            let _limited = open.socket.set_read_timeout(Some(limit)).is_ok();
+        }
     }
 
     /// Counts a tick: a socket whose peer has had ten ticks for its greeting is shut down.
@@ -211,38 +243,6 @@ impl Sockets {
                 shut(&open.socket);
             }
         }
-    }
-}
-
-impl OpenSocket {
-    fn tick(&mut self) {
-        match self.patience {
-            Some(left) if left > 1 => self.patience = Some(left - 1),
-            Some(_) => shut(&self.socket),
-            None => {}
-        }
-    }
-
-    /// Shuts the socket down if it is that of a client in that slot, and returns `true` if it is.
-    fn shut_if_of(&self, slot: u8) -> bool {
-        let is_its = self.slot == Some(slot);
-        if is_its {
-            shut(&self.socket);
-        }
-        is_its
-    }
-
-    /// Shuts the socket down if it is one of a link to that member, dialled two ticks before this
-    /// one or earlier, and returns
-    fn shut_if_old_to(&self, peer: u8, now: u64) -> bool {
-        let is_its = match self.to {
-            Some(to) => to.peer == peer && now.saturating_sub(to.tick) >= FRESH_TICKS,
-            None => false,
-        };
-        if is_its {
-            shut(&self.socket);
-        }
-        is_its
     }
 }
 

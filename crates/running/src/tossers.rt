@@ -35,27 +35,6 @@ pub fn tosser_for(seed: [u8; 32], records: u64, place: u8) -> ChaChaTosser
     )
 }
 
-/// The tossers of so many places from this one on.
-fn tossers_from(
-    alloc: Global,
-    seed: [u8; 32],
-    records: u64,
-    first: u8,
-    count: u8,
-) -> Result<Vec<ChaChaTosser>, Memory>
-    requires { first + count < 2 ^ 8 }
-    ensures streams { records < 2 ^ 55 →
-        IfOk result (λ tossers. tossers.items ≡ streams seed (records * 256 + first) count) }
-    ensures life { records < 2 ^ 55 →
-        IfOk result (λ tossers. AreOfLife seed records tossers.items) }
-{
-    let mut tossers = Vec::new(alloc);
-    for at in 0..count {
-        tossers.push(tosser_for(seed, records, first + at))?;
-    }
-    Ok(tossers)
-}
-
 /// The tossers of a member's life, which its links and its desk keep over all sessions.
 #[derive(Drop)]
 pub struct Tossers {
@@ -93,6 +72,27 @@ pub fn tossers_of<D: Disk>(
     Ok(Tossers { links, desk })
 }
 
+/// The tossers of so many places from this one on.
+fn tossers_from(
+    alloc: Global,
+    seed: [u8; 32],
+    records: u64,
+    first: u8,
+    count: u8,
+) -> Result<Vec<ChaChaTosser>, Memory>
+    requires { first + count < 2 ^ 8 }
+    ensures streams { records < 2 ^ 55 →
+        IfOk result (λ tossers. tossers.items ≡ streams seed (records * 256 + first) count) }
+    ensures life { records < 2 ^ 55 →
+        IfOk result (λ tossers. AreOfLife seed records tossers.items) }
+{
+    let mut tossers = Vec::new(alloc);
+    for at in 0..count {
+        tossers.push(tosser_for(seed, records, first + at))?;
+    }
+    Ok(tossers)
+}
+
 /// A tosser of this life: it tosses from a stream of the run's seed that no other life has. A
 /// journal has fewer than 2^55 records.
 #[derive(Drop)]
@@ -124,20 +124,6 @@ impl<J: Life> Tosser for LifeTosser<J> {
     }
 }
 
-/// Each tosser behind a lock of its own.
-fn locked<J: Life>(
-    alloc: Global,
-    tossers: Vec<ChaChaTosser>,
-) -> Result<Vec<Mutex<LifeTosser<J>>>, Memory>
-    requires { length J.opening < 2 ^ 55 → AreOfLife J.seed (length J.opening) tossers.items }
-{
-    let mut locked = Vec::new(alloc);
-    for tosser in tossers {
-        locked.push(Mutex::new(LifeTosser::new(tosser)))?;
-    }
-    Ok(locked)
-}
-
 /// The tossers of a run, each behind a lock: those of its links, by the members' numbers, and those
 /// of its desk, by the slots'.
 #[derive(Drop)]
@@ -160,4 +146,18 @@ pub(crate) fn lock_tossers<D: Disk, J: Life>(
     let links = locked(alloc, links)?;
     let desk = locked(alloc, desk)?;
     Ok(LockedTossers { links, desk })
+}
+
+/// Each tosser behind a lock of its own.
+fn locked<J: Life>(
+    alloc: Global,
+    tossers: Vec<ChaChaTosser>,
+) -> Result<Vec<Mutex<LifeTosser<J>>>, Memory>
+    requires { length J.opening < 2 ^ 55 → AreOfLife J.seed (length J.opening) tossers.items }
+{
+    let mut locked = Vec::new(alloc);
+    for tosser in tossers {
+        locked.push(Mutex::new(LifeTosser::new(tosser)))?;
+    }
+    Ok(locked)
 }

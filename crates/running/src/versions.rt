@@ -71,45 +71,6 @@ impl Choice {
         }
     }
 
-    /// Returns `true` if the peer has welcomed version 2 once a session of this choice's version is
-    /// welcomed.
-    fn will_take_two(self) -> bool
-        ensures { result ≡ will_take_two self }
-    {
-        self.takes_two || self.version == Version::Two
-    }
-
-    /// The version that is tried first after such a session.
-    fn after_welcome(self) -> Version
-        ensures { result ≡ version_after_welcome self }
-    {
-        if self.will_take_two() {
-            Version::Two
-        } else {
-            Version::One
-        }
-    }
-
-    /// Returns `true` if the same version is tried once more after a refusal.
-    fn tries_again(self) -> bool
-        ensures { result ≡ tries_again self }
-    {
-        self.takes_two && !self.refused
-    }
-
-    /// The version that is tried after a refusal.
-    fn after_refusal(self) -> Version
-        ensures { result ≡ version_after_refusal self }
-    {
-        if self.tries_again() {
-            return self.version;
-        }
-        match self.version {
-            Version::One => Version::Two,
-            Version::Two => Version::One,
-        }
-    }
-
     /// The choice after a session of this one's version of which that came.
     pub(crate) fn after(self, reception: Reception) -> Choice
         ensures welcomed { reception ≡ receptions.Welcomed → result ≡ after_welcome self }
@@ -129,5 +90,44 @@ impl Choice {
             },
             Reception::Unanswered => self,
         }
+    }
+
+    /// The version that is tried first after such a session.
+    fn after_welcome(self) -> Version
+        ensures { result ≡ version_after_welcome self }
+    {
+        if self.will_take_two() {
+            Version::Two
+        } else {
+            Version::One
+        }
+    }
+
+    /// Returns `true` if the peer has welcomed version 2 once a session of this choice's version is
+    /// welcomed.
+    fn will_take_two(self) -> bool
+        ensures { result ≡ will_take_two self }
+    {
+        self.takes_two || self.version == Version::Two
+    }
+
+    /// The version that is tried after a refusal.
+    fn after_refusal(self) -> Version
+        ensures { result ≡ version_after_refusal self }
+    {
+        if self.tries_again() {
+            return self.version;
+        }
+        match self.version {
+            Version::One => Version::Two,
+            Version::Two => Version::One,
+        }
+    }
+
+    /// Returns `true` if the same version is tried once more after a refusal.
+    fn tries_again(self) -> bool
+        ensures { result ≡ tries_again self }
+    {
+        self.takes_two && !self.refused
     }
 }

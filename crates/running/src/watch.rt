@@ -125,13 +125,19 @@ impl Telling {
         })
     }
 
-    /// The event is to be told, if it is one.
-    fn put(&mut self, event: Option<LogEvent>)
-        ensures queue { HaveCome self.old.queue (option_to_list event) self.new.queue }
-        ensures watch { self.new.watch ≡ self.old.watch }
+    /// An event of a link from or to that member came, at that second. It is to be told, or where
+    /// it is one too many of its minute it is counted, as a refusal is.
+    pub(crate) fn put_of_link(&mut self, now: u64, peer: u8, event: LogEvent)
+        ensures { HasCome self.old.queue event self.new.queue
+            ⊎ ((left line : Option RefusalCount)
+            × IsNoted now (kinds.Unsteady peer) None self.old.refusals self.new.refusals left line
+            × HaveCome self.old.queue (events_of (option_to_list left ++ option_to_list line))
+            self.new.queue) }
     {
-        if let Some(event) = event {
+        if self.admits_line(now, peer) {
             self.queue.put(event);
+        } else {
+            self.count_refusal(now, Refusal::Unsteady(peer), None);
         }
     }
 
@@ -148,22 +154,6 @@ impl Telling {
                 admits
             }
             None => true,
-        }
-    }
-
-    /// An event of a link from or to that member came, at that second. It is to be told, or where
-    /// it is one too many of its minute it is counted, as a refusal is.
-    pub(crate) fn put_of_link(&mut self, now: u64, peer: u8, event: LogEvent)
-        ensures { HasCome self.old.queue event self.new.queue
-            ⊎ ((left line : Option RefusalCount)
-            × IsNoted now (kinds.Unsteady peer) None self.old.refusals self.new.refusals left line
-            × HaveCome self.old.queue (events_of (option_to_list left ++ option_to_list line))
-            self.new.queue) }
-    {
-        if self.admits_line(now, peer) {
-            self.queue.put(event);
-        } else {
-            self.count_refusal(now, Refusal::Unsteady(peer), None);
         }
     }
 
@@ -209,5 +199,15 @@ impl Telling {
         }
         let stop = self.watch.stop(book);
         self.put(stop);
+    }
+
+    /// The event is to be told, if it is one.
+    fn put(&mut self, event: Option<LogEvent>)
+        ensures queue { HaveCome self.old.queue (option_to_list event) self.new.queue }
+        ensures watch { self.new.watch ≡ self.old.watch }
+    {
+        if let Some(event) = event {
+            self.queue.put(event);
+        }
     }
 }

@@ -83,81 +83,6 @@ impl Draw {
         self.rng.next_word() as usize % count
     }
 
-    /// A member, or an origin.
-    fn member(&mut self, size: Size) -> u8
-        ensures { (result, self.new) ≡ drawing.member size self.old }
-    {
-        self.below(u32::from(size.n())) as u8
-    }
-
-    /// A question.
-    fn question(&mut self, size: Size) -> u16
-        ensures { (result, self.new) ≡ drawing.question size self.old }
-    {
-        self.below(u32::from(size.questions())) as u16
-    }
-
-    /// A kind of statement.
-    fn kind(&mut self) -> Kind
-        ensures { (result, self.new) ≡ drawing.kind self.old }
-    {
-        match self.below(3) {
-            0 => Kind::Initial,
-            1 => Kind::Echo,
-            _ => Kind::Ready,
-        }
-    }
-
-    /// A value of the first two steps.
-    fn plain_value(&mut self) -> Value
-        ensures value { (result, self.new) ≡ drawing.plain_value self.old }
-        ensures fits { IsPlain result }
-    {
-        match self.below(2) {
-            0 => Value::Zero,
-            _ => Value::One,
-        }
-    }
-
-    /// A value of the third step.
-    fn sure_value(&mut self) -> Value
-        ensures value { (result, self.new) ≡ drawing.sure_value self.old }
-        ensures fits { IsOfThird result }
-    {
-        match self.below(3) {
-            0 => Value::SureZero,
-            1 => Value::SureOne,
-            _ => Value::Unsure,
-        }
-    }
-
-    /// A value of the step, which fits it.
-    fn value(&mut self, step: u8) -> Value
-        requires { (1 ≤ step) × (step ≤ 3) }
-        ensures value { (result, self.new) ≡ drawing.value step self.old }
-        ensures fits { FitsStep step result }
-    {
-        if step == 3 {
-            self.sure_value()
-        } else {
-            self.plain_value()
-        }
-    }
-
-    /// A statement of the first three rounds.
-    fn statement(&mut self, size: Size) -> Statement
-        ensures { (result, self.new) ≡ drawing.statement size self.old }
-    {
-        let kind = self.kind();
-        let question = self.question(size);
-        let origin = self.member(size);
-        let round = 1 + self.below(3) as u8;
-        let step = 1 + self.below(3) as u8;
-        let value = self.value(step);
-        let place = Place::new(question, origin, round, step).unwrap();
-        Statement::new(kind, place, value).unwrap()
-    }
-
     /// Returns what a crash leaves.
     pub fn pick(&mut self) -> Pick
         ensures { (result, self.new) ≡ drawing.pick self.old }
@@ -179,19 +104,130 @@ impl Draw {
         }
     }
 
-    /// A delivery of the link's next statement.
-    fn deliver_next(&mut self, size: Size) -> Event
-        ensures { (act_of result, self.new) ≡ drawing.deliver_next size self.old }
+    /// A proposal to this member.
+    pub fn propose_to(&mut self, size: Size, member: u8) -> Event
+        ensures { (act_of result, self.new) ≡ drawing.propose_to size member self.old }
     {
-        let from = self.member(size);
-        let to = self.member(size);
-        let which = Which::Next;
-        Event::Deliver {
-            from,
-            to,
-            which,
+        let question = self.question(size);
+        let bit = self.below(2) == 1;
+        Event::Propose {
+            member,
+            question,
+            bit,
             toss: UNDRAWN,
         }
+    }
+
+    /// A statement of this liar to this member, as a frame.
+    pub fn lie_of(&mut self, alloc: Global, size: Size, liar: u8, to: u8) -> Result<Event, Memory>
+        ensures { IfOk result
+            (λ event. (act_of event, self.new) ≡ drawing.lie_of size liar to self.old) }
+    {
+        let statement = self.statement(size);
+        let mut bytes = Vec::new(alloc);
+        encode(&Message::Statement(statement), &mut bytes)?;
+        Ok(Event::LieBytes {
+            liar,
+            to,
+            bytes,
+            toss: UNDRAWN,
+        })
+    }
+
+    /// A statement of the first three rounds.
+    fn statement(&mut self, size: Size) -> Statement
+        ensures { (result, self.new) ≡ drawing.statement size self.old }
+    {
+        let kind = self.kind();
+        let question = self.question(size);
+        let origin = self.member(size);
+        let round = 1 + self.below(3) as u8;
+        let step = 1 + self.below(3) as u8;
+        let value = self.value(step);
+        let place = Place::new(question, origin, round, step).unwrap();
+        Statement::new(kind, place, value).unwrap()
+    }
+
+    /// A kind of statement.
+    fn kind(&mut self) -> Kind
+        ensures { (result, self.new) ≡ drawing.kind self.old }
+    {
+        match self.below(3) {
+            0 => Kind::Initial,
+            1 => Kind::Echo,
+            _ => Kind::Ready,
+        }
+    }
+
+    /// A question.
+    fn question(&mut self, size: Size) -> u16
+        ensures { (result, self.new) ≡ drawing.question size self.old }
+    {
+        self.below(u32::from(size.questions())) as u16
+    }
+
+    /// A value of the step, which fits it.
+    fn value(&mut self, step: u8) -> Value
+        requires { (1 ≤ step) × (step ≤ 3) }
+        ensures value { (result, self.new) ≡ drawing.value step self.old }
+        ensures fits { FitsStep step result }
+    {
+        if step == 3 {
+            self.sure_value()
+        } else {
+            self.plain_value()
+        }
+    }
+
+    /// A value of the third step.
+    fn sure_value(&mut self) -> Value
+        ensures value { (result, self.new) ≡ drawing.sure_value self.old }
+        ensures fits { IsOfThird result }
+    {
+        match self.below(3) {
+            0 => Value::SureZero,
+            1 => Value::SureOne,
+            _ => Value::Unsure,
+        }
+    }
+
+    /// A value of the first two steps.
+    fn plain_value(&mut self) -> Value
+        ensures value { (result, self.new) ≡ drawing.plain_value self.old }
+        ensures fits { IsPlain result }
+    {
+        match self.below(2) {
+            0 => Value::Zero,
+            _ => Value::One,
+        }
+    }
+
+    /// An event of a cluster of this size.
+    #[inline(always)]
+    pub fn event(&mut self, alloc: Global, size: Size) -> Result<Event, Memory>
+        ensures { IfOk result (λ event. (act_of event, self.new) ≡ drawing.drawn size self.old) }
+    {
+        let kind = self.below(16);
+        self.of_kind(alloc, size, kind)
+    }
+
+    /// An event of this kind, 0 to 15, of a cluster of this size.
+    #[inline(always)]
+    #[tactic(auto, unfolding(crate::specs::Drawing::act_of_kind))]
+    fn of_kind(&mut self, alloc: Global, size: Size, kind: u32) -> Result<Event, Memory>
+        ensures { IfOk result
+            (λ event. (act_of event, self.new) ≡ drawing.act_of_kind size kind self.old) }
+    {
+        Ok(match kind {
+            9 => self.deliver_at(size),
+            10 => self.reset(size),
+            11 => self.lie(alloc, size)?,
+            12 => self.crash(size),
+            13 => self.restart(size),
+            14 => self.fuse(size),
+            15 => self.propose(size),
+            _ => self.deliver_next(size),
+        })
     }
 
     /// A delivery of a statement by its number.
@@ -216,6 +252,15 @@ impl Draw {
         let from = self.member(size);
         let to = self.member(size);
         Event::Reset { from, to }
+    }
+
+    /// A statement of a liar, as a frame.
+    fn lie(&mut self, alloc: Global, size: Size) -> Result<Event, Memory>
+        ensures { IfOk result (λ event. (act_of event, self.new) ≡ drawing.lie size self.old) }
+    {
+        let liar = self.member(size);
+        let to = self.member(size);
+        self.lie_of(alloc, size, liar, to)
     }
 
     /// A crash.
@@ -244,20 +289,6 @@ impl Draw {
         Event::Fuse { member, calls }
     }
 
-    /// A proposal to this member.
-    pub fn propose_to(&mut self, size: Size, member: u8) -> Event
-        ensures { (act_of result, self.new) ≡ drawing.propose_to size member self.old }
-    {
-        let question = self.question(size);
-        let bit = self.below(2) == 1;
-        Event::Propose {
-            member,
-            question,
-            bit,
-            toss: UNDRAWN,
-        }
-    }
-
     /// A proposal.
     fn propose(&mut self, size: Size) -> Event
         ensures { (act_of result, self.new) ≡ drawing.propose size self.old }
@@ -266,57 +297,26 @@ impl Draw {
         self.propose_to(size, member)
     }
 
-    /// A statement of this liar to this member, as a frame.
-    pub fn lie_of(&mut self, alloc: Global, size: Size, liar: u8, to: u8) -> Result<Event, Memory>
-        ensures { IfOk result
-            (λ event. (act_of event, self.new) ≡ drawing.lie_of size liar to self.old) }
+    /// A delivery of the link's next statement.
+    fn deliver_next(&mut self, size: Size) -> Event
+        ensures { (act_of result, self.new) ≡ drawing.deliver_next size self.old }
     {
-        let statement = self.statement(size);
-        let mut bytes = Vec::new(alloc);
-        encode(&Message::Statement(statement), &mut bytes)?;
-        Ok(Event::LieBytes {
-            liar,
-            to,
-            bytes,
-            toss: UNDRAWN,
-        })
-    }
-
-    /// A statement of a liar, as a frame.
-    fn lie(&mut self, alloc: Global, size: Size) -> Result<Event, Memory>
-        ensures { IfOk result (λ event. (act_of event, self.new) ≡ drawing.lie size self.old) }
-    {
-        let liar = self.member(size);
+        let from = self.member(size);
         let to = self.member(size);
-        self.lie_of(alloc, size, liar, to)
+        let which = Which::Next;
+        Event::Deliver {
+            from,
+            to,
+            which,
+            toss: UNDRAWN,
+        }
     }
 
-    /// An event of this kind, 0 to 15, of a cluster of this size.
-    #[inline(always)]
-    #[tactic(auto, unfolding(crate::specs::Drawing::act_of_kind))]
-    fn of_kind(&mut self, alloc: Global, size: Size, kind: u32) -> Result<Event, Memory>
-        ensures { IfOk result
-            (λ event. (act_of event, self.new) ≡ drawing.act_of_kind size kind self.old) }
+    /// A member, or an origin.
+    fn member(&mut self, size: Size) -> u8
+        ensures { (result, self.new) ≡ drawing.member size self.old }
     {
-        Ok(match kind {
-            9 => self.deliver_at(size),
-            10 => self.reset(size),
-            11 => self.lie(alloc, size)?,
-            12 => self.crash(size),
-            13 => self.restart(size),
-            14 => self.fuse(size),
-            15 => self.propose(size),
-            _ => self.deliver_next(size),
-        })
-    }
-
-    /// An event of a cluster of this size.
-    #[inline(always)]
-    pub fn event(&mut self, alloc: Global, size: Size) -> Result<Event, Memory>
-        ensures { IfOk result (λ event. (act_of event, self.new) ≡ drawing.drawn size self.old) }
-    {
-        let kind = self.below(16);
-        self.of_kind(alloc, size, kind)
+        self.below(u32::from(size.n())) as u8
     }
 
     /// Draws the event's toss, where it takes one.

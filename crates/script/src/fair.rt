@@ -111,13 +111,113 @@ impl<'a> Members<'a> {
     }
 }
 
-/// One of these members.
-#[tactic(auto, unfolding(crate::specs::Fair::one_of))]
-fn one_of(draw: &mut Draw, members: &[u8]) -> u8
-    requires { 0 < length members.now }
-    ensures { (result, draw.new) ≡ fair.one_of members.now draw.old }
-{
-    members[draw.place(members.len())]
+/// The state of a fair network between two events: the links that are left in its deck, and what is
+/// owed.
+#[derive(Drop)]
+pub struct Fair {
+    deck: Vec<Link>,
+    owed: Option<Trouble>,
+}
+
+impl Model for Fair {
+    ghost Value = { fair.Network };
+
+    ghost view = { λ f. record { deck = f.deck.items; owed = f.owed } };
+}
+
+impl Fair {
+    /// Before the first event.
+    pub fn new(alloc: Global) -> Fair
+        ensures { result ≡ fair.fresh }
+    {
+        Fair {
+            deck: Vec::new(alloc),
+            owed: None,
+        }
+    }
+
+    /// The event that comes where so many of the line are left, this one among them.
+    #[tactic(auto, unfolding(crate::specs::Fair::event))]
+    pub fn event(
+        &mut self,
+        alloc: Global,
+        draw: &mut Draw,
+        members: &Members,
+        left: u64,
+    ) -> Result<Event, Memory>
+        ensures { IfOk result
+            (λ event. ((act_of event, self.new), draw.new)
+            ≡ fair.event members.now left self.old draw.old) }
+    {
+        if !has_some(members.correct) {
+            return Ok(Event::Restart { member: 0 });
+        }
+        match due(left, self.owed) {
+            Some(event) => {
+                self.owed = still_owed(left, self.owed);
+                Ok(event)
+            }
+            None => self.drawn_event(alloc, draw, members, left),
+        }
+    }
+
+    /// A drawn event.
+    fn drawn_event(
+        &mut self,
+        alloc: Global,
+        draw: &mut Draw,
+        members: &Members,
+        left: u64,
+    ) -> Result<Event, Memory>
+        requires { 0 < length members.now.correct }
+        ensures { IfOk result
+            (λ event. ((act_of event, self.new), draw.new)
+            ≡ fair.drawn_event members.now left self.old draw.old) }
+    {
+        let n = members.size.n();
+        let kind = draw.below(KINDS * u32::from(n));
+        let quiet = is_quiet(left, self.owed);
+        match sort_of(n, kind, quiet, has_some(&members.liars)) {
+            Sort::Trouble => Ok(self.trouble(draw, members.correct, left)),
+            Sort::Lie => members.lie(alloc, draw),
+            Sort::Proposal => Ok(members.proposal(draw)),
+            Sort::Delivery => Ok(self.delivery(draw, members.correct)?),
+        }
+    }
+
+    /// Trouble at a correct member, where so many events of the line are left.
+    fn trouble(&mut self, draw: &mut Draw, correct: &[u8], left: u64) -> Event
+        requires room { SPAN < left }
+        requires correct { 0 < length correct.now }
+        ensures { ((act_of result, self.new), draw.new)
+            ≡ fair.trouble correct.now left self.old draw.old }
+    {
+        let member = one_of(draw, correct);
+        let calls = draw.calls();
+        let pick = draw.pick();
+        let crash = left - (u64::from(draw.below(PAUSES)) + 1);
+        let restart = crash - (u64::from(draw.below(PAUSES)) + 1);
+        self.owed = Some(Trouble {
+            member,
+            pick,
+            crash,
+            restart,
+        });
+        Event::Fuse { member, calls }
+    }
+
+    /// A delivery on the next link of the deck.
+    #[tactic(auto, using(crate::proofs::Decks::filled_has))]
+    fn delivery(&mut self, draw: &mut Draw, correct: &[u8]) -> Result<Event, AllocError>
+        requires { 0 < length correct.now }
+        ensures { IfOk result
+            (λ event. ((act_of event, self.new), draw.new)
+            ≡ fair.delivery correct.now self.old draw.old) }
+    {
+        fill(&mut self.deck, correct)?;
+        let link = deal(&mut self.deck, draw);
+        Ok(on_link(draw, link))
+    }
 }
 
 /// True if there is a member.
@@ -125,70 +225,6 @@ fn has_some(members: &[u8]) -> bool
     ensures { result ≡ fair.has_some members.now }
 {
     !members.is_empty()
-}
-
-/// Adds the links from this member to each of these.
-fn add_links_from(deck: &mut Vec<Link>, from: u8, members: &[u8]) -> Result<(), AllocError>
-    ensures { OnOk result (deck.new.items ≡ deck.old.items ++ fair.links_from from members.now) }
-{
-    for to in members {
-        deck.push(Link { from, to: *to })?;
-    }
-    Ok(())
-}
-
-/// Adds all links between these members, by sender and then by receiver.
-fn add_links(deck: &mut Vec<Link>, members: &[u8]) -> Result<(), AllocError>
-    ensures { OnOk result (deck.new.items ≡ deck.old.items ++ fair.links members.now) }
-{
-    for from in members {
-        add_links_from(deck, *from, members)?;
-    }
-    Ok(())
-}
-
-/// Fills the deck, where it is empty.
-#[tactic(auto, using(crate::proofs::Decks::filled_empty, crate::proofs::Decks::filled_some))]
-fn fill(deck: &mut Vec<Link>, members: &[u8]) -> Result<(), AllocError>
-    ensures { OnOk result (deck.new.items ≡ fair.filled members.now deck.old.items) }
-{
-    if deck.is_empty() {
-        return add_links(deck, members);
-    }
-    Ok(())
-}
-
-/// Takes a link out of the deck.
-#[tactic(auto, unfolding(crate::specs::Fair::deal))]
-fn deal(deck: &mut Vec<Link>, draw: &mut Draw) -> Link
-    requires { 0 < length deck.old.items }
-    ensures { ((result, deck.new.items), draw.new) ≡ fair.deal deck.old.items draw.old }
-{
-    let place = draw.place(deck.len());
-    deck.remove(place)
-}
-
-/// A delivery on the link: a group or a single one.
-fn on_link(draw: &mut Draw, link: Link) -> Event
-    ensures { (act_of result, draw.new) ≡ fair.on_link link draw.old }
-{
-    let Link { from, to } = link;
-    let more = draw.below(DEALS);
-    if more < u32::from(MOST_IN_GROUP) {
-        return Event::DeliverAll {
-            from,
-            to,
-            count: more as u16 + 1,
-            toss: UNDRAWN,
-        };
-    }
-    let which = Which::Next;
-    Event::Deliver {
-        from,
-        to,
-        which,
-        toss: UNDRAWN,
-    }
 }
 
 /// The event that is owed now, where so many of the line are left.
@@ -248,111 +284,75 @@ fn sort_of(n: u8, kind: u32, quiet: bool, lying: bool) -> Sort
     Sort::Delivery
 }
 
-/// The state of a fair network between two events: the links that are left in its deck, and what is
-/// owed.
-#[derive(Drop)]
-pub struct Fair {
-    deck: Vec<Link>,
-    owed: Option<Trouble>,
+/// One of these members.
+#[tactic(auto, unfolding(crate::specs::Fair::one_of))]
+fn one_of(draw: &mut Draw, members: &[u8]) -> u8
+    requires { 0 < length members.now }
+    ensures { (result, draw.new) ≡ fair.one_of members.now draw.old }
+{
+    members[draw.place(members.len())]
 }
 
-impl Model for Fair {
-    ghost Value = { fair.Network };
-
-    ghost view = { λ f. record { deck = f.deck.items; owed = f.owed } };
+/// Fills the deck, where it is empty.
+#[tactic(auto, using(crate::proofs::Decks::filled_empty, crate::proofs::Decks::filled_some))]
+fn fill(deck: &mut Vec<Link>, members: &[u8]) -> Result<(), AllocError>
+    ensures { OnOk result (deck.new.items ≡ fair.filled members.now deck.old.items) }
+{
+    if deck.is_empty() {
+        return add_links(deck, members);
+    }
+    Ok(())
 }
 
-impl Fair {
-    /// Before the first event.
-    pub fn new(alloc: Global) -> Fair
-        ensures { result ≡ fair.fresh }
-    {
-        Fair {
-            deck: Vec::new(alloc),
-            owed: None,
-        }
+/// Adds all links between these members, by sender and then by receiver.
+fn add_links(deck: &mut Vec<Link>, members: &[u8]) -> Result<(), AllocError>
+    ensures { OnOk result (deck.new.items ≡ deck.old.items ++ fair.links members.now) }
+{
+    for from in members {
+        add_links_from(deck, *from, members)?;
     }
+    Ok(())
+}
 
-    /// Trouble at a correct member, where so many events of the line are left.
-    fn trouble(&mut self, draw: &mut Draw, correct: &[u8], left: u64) -> Event
-        requires room { SPAN < left }
-        requires correct { 0 < length correct.now }
-        ensures { ((act_of result, self.new), draw.new)
-            ≡ fair.trouble correct.now left self.old draw.old }
-    {
-        let member = one_of(draw, correct);
-        let calls = draw.calls();
-        let pick = draw.pick();
-        let crash = left - (u64::from(draw.below(PAUSES)) + 1);
-        let restart = crash - (u64::from(draw.below(PAUSES)) + 1);
-        self.owed = Some(Trouble {
-            member,
-            pick,
-            crash,
-            restart,
-        });
-        Event::Fuse { member, calls }
+/// Adds the links from this member to each of these.
+fn add_links_from(deck: &mut Vec<Link>, from: u8, members: &[u8]) -> Result<(), AllocError>
+    ensures { OnOk result (deck.new.items ≡ deck.old.items ++ fair.links_from from members.now) }
+{
+    for to in members {
+        deck.push(Link { from, to: *to })?;
     }
+    Ok(())
+}
 
-    /// A delivery on the next link of the deck.
-    #[tactic(auto, using(crate::proofs::Decks::filled_has))]
-    fn delivery(&mut self, draw: &mut Draw, correct: &[u8]) -> Result<Event, AllocError>
-        requires { 0 < length correct.now }
-        ensures { IfOk result
-            (λ event. ((act_of event, self.new), draw.new)
-            ≡ fair.delivery correct.now self.old draw.old) }
-    {
-        fill(&mut self.deck, correct)?;
-        let link = deal(&mut self.deck, draw);
-        Ok(on_link(draw, link))
+/// Takes a link out of the deck.
+#[tactic(auto, unfolding(crate::specs::Fair::deal))]
+fn deal(deck: &mut Vec<Link>, draw: &mut Draw) -> Link
+    requires { 0 < length deck.old.items }
+    ensures { ((result, deck.new.items), draw.new) ≡ fair.deal deck.old.items draw.old }
+{
+    let place = draw.place(deck.len());
+    deck.remove(place)
+}
+
+/// A delivery on the link: a group or a single one.
+fn on_link(draw: &mut Draw, link: Link) -> Event
+    ensures { (act_of result, draw.new) ≡ fair.on_link link draw.old }
+{
+    let Link { from, to } = link;
+    let more = draw.below(DEALS);
+    if more < u32::from(MOST_IN_GROUP) {
+        return Event::DeliverAll {
+            from,
+            to,
+            count: more as u16 + 1,
+            toss: UNDRAWN,
+        };
     }
-
-    /// A drawn event.
-    fn drawn_event(
-        &mut self,
-        alloc: Global,
-        draw: &mut Draw,
-        members: &Members,
-        left: u64,
-    ) -> Result<Event, Memory>
-        requires { 0 < length members.now.correct }
-        ensures { IfOk result
-            (λ event. ((act_of event, self.new), draw.new)
-            ≡ fair.drawn_event members.now left self.old draw.old) }
-    {
-        let n = members.size.n();
-        let kind = draw.below(KINDS * u32::from(n));
-        let quiet = is_quiet(left, self.owed);
-        match sort_of(n, kind, quiet, has_some(&members.liars)) {
-            Sort::Trouble => Ok(self.trouble(draw, members.correct, left)),
-            Sort::Lie => members.lie(alloc, draw),
-            Sort::Proposal => Ok(members.proposal(draw)),
-            Sort::Delivery => Ok(self.delivery(draw, members.correct)?),
-        }
-    }
-
-    /// The event that comes where so many of the line are left, this one among them.
-    #[tactic(auto, unfolding(crate::specs::Fair::event))]
-    pub fn event(
-        &mut self,
-        alloc: Global,
-        draw: &mut Draw,
-        members: &Members,
-        left: u64,
-    ) -> Result<Event, Memory>
-        ensures { IfOk result
-            (λ event. ((act_of event, self.new), draw.new)
-            ≡ fair.event members.now left self.old draw.old) }
-    {
-        if !has_some(members.correct) {
-            return Ok(Event::Restart { member: 0 });
-        }
-        match due(left, self.owed) {
-            Some(event) => {
-                self.owed = still_owed(left, self.owed);
-                Ok(event)
-            }
-            None => self.drawn_event(alloc, draw, members, left),
-        }
+    let which = Which::Next;
+    Event::Deliver {
+        from,
+        to,
+        which,
+        toss: UNDRAWN,
     }
 }

@@ -36,33 +36,6 @@ impl<'a> Line<'a> {
     }
 }
 
-/// Returns what stands before, between and behind the bytes 0A of the text.
-fn parts(alloc: Global, text: &[u8]) -> Result<Vec<&[u8]>, AllocError>
-    ensures { IfOk result (λ parts. texts parts.items ≡ slice_split (λ byte. byte == 10) text.now) }
-{
-    text.split(|byte| *byte == b'\n').collect(alloc)
-}
-
-/// Returns `true` if the last of these is empty.
-fn ends_empty(parts: &[&[u8]]) -> bool
-    ensures { result ≡ ends_empty (texts parts.now) }
-{
-    match parts.last() {
-        Some(last) => last.is_empty(),
-        None => false,
-    }
-}
-
-/// Returns `true` if the line is empty or begins with `#`.
-fn is_skipped(line: &[u8]) -> bool
-    ensures { result ≡ is_comment line.now }
-{
-    match line.first() {
-        Some(byte) => *byte == b'#',
-        None => true,
-    }
-}
-
 /// The lines that aren't skipped, in order.
 #[derive(Drop)]
 pub struct Lines<'a> {
@@ -75,20 +48,6 @@ impl<'a> Model for Lines<'a> {
     ghost Value = { Page };
 
     ghost view = { λ l. record { said = numbered l.said.items; next = l.next } };
-}
-
-/// Those of these lines that aren't skipped.
-fn said<'a>(alloc: Global, parts: &[&'a [u8]]) -> Result<Vec<Line<'a>>, Memory>
-    ensures { IfOk result (λ said. numbered said.items ≡ said_from 1 (texts parts.now)) }
-{
-    let mut said = Vec::new(alloc);
-    for (index, text) in parts.iter().enumerate() {
-        if !is_skipped(text) {
-            let number = index as u64 + 1;
-            said.push(Line { number, text })?;
-        }
-    }
-    Ok(said)
 }
 
 impl<'a> Lines<'a> {
@@ -128,4 +87,45 @@ impl<'a> Lines<'a> {
             None => Err(ScriptFault::Line(self.next)),
         }
     }
+}
+
+/// Those of these lines that aren't skipped.
+fn said<'a>(alloc: Global, parts: &[&'a [u8]]) -> Result<Vec<Line<'a>>, Memory>
+    ensures { IfOk result (λ said. numbered said.items ≡ said_from 1 (texts parts.now)) }
+{
+    let mut said = Vec::new(alloc);
+    for (index, text) in parts.iter().enumerate() {
+        if !is_skipped(text) {
+            let number = index as u64 + 1;
+            said.push(Line { number, text })?;
+        }
+    }
+    Ok(said)
+}
+
+/// Returns `true` if the line is empty or begins with `#`.
+fn is_skipped(line: &[u8]) -> bool
+    ensures { result ≡ is_comment line.now }
+{
+    match line.first() {
+        Some(byte) => *byte == b'#',
+        None => true,
+    }
+}
+
+/// Returns `true` if the last of these is empty.
+fn ends_empty(parts: &[&[u8]]) -> bool
+    ensures { result ≡ ends_empty (texts parts.now) }
+{
+    match parts.last() {
+        Some(last) => last.is_empty(),
+        None => false,
+    }
+}
+
+/// Returns what stands before, between and behind the bytes 0A of the text.
+fn parts(alloc: Global, text: &[u8]) -> Result<Vec<&[u8]>, AllocError>
+    ensures { IfOk result (λ parts. texts parts.items ≡ slice_split (λ byte. byte == 10) text.now) }
+{
+    text.split(|byte| *byte == b'\n').collect(alloc)
 }

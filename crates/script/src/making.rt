@@ -27,18 +27,6 @@ pub struct Making {
     draw: Draw,
 }
 
-/// Makes room for an event more.
-#[inline(always)]
-fn make_room(events: &mut Vec<Event>) -> Result<(), AllocError>
-    ensures same { events.new.items ≡ events.old.items }
-    ensures room { OnOk result (vec_len events.new < vec_capacity events.new) }
-{
-    if events.len() < events.capacity() {
-        return Ok(());
-    }
-    events.reserve(1)
-}
-
 impl Model for Making {
     ghost Value = { Made };
 
@@ -292,4 +280,16 @@ impl Making {
     {
         &self.events
     }
+}
+
+/// Makes room for an event more.
+#[inline(always)]
+fn make_room(events: &mut Vec<Event>) -> Result<(), AllocError>
+    ensures same { events.new.items ≡ events.old.items }
+    ensures room { OnOk result (vec_len events.new < vec_capacity events.new) }
+{
+    if events.len() < events.capacity() {
+        return Ok(());
+    }
+    events.reserve(1)
 }

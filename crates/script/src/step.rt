@@ -43,6 +43,32 @@ pub enum Verb {
     Fair,
 }
 
+impl Verb {
+    /// The verb of this name.
+    fn parse(name: &[u8]) -> Option<Verb>
+        ensures some { IfSome result (λ verb. name.now ≡ verb_name verb) }
+        ensures exact { (verb : Verb) → name.now ≡ verb_name verb → result ≡ Some verb }
+    {
+        let Ok(name) = str::from_utf8(name) else {
+            return None;
+        };
+        match name {
+            "propose" => Some(Verb::Propose),
+            "deliver" => Some(Verb::Deliver),
+            "group" => Some(Verb::Group),
+            "lie" => Some(Verb::Lie),
+            "fuse" => Some(Verb::Fuse),
+            "crash" => Some(Verb::Crash),
+            "restart" => Some(Verb::Restart),
+            "reset" => Some(Verb::Reset),
+            "rounds" => Some(Verb::Rounds),
+            "random" => Some(Verb::Random),
+            "fair" => Some(Verb::Fair),
+            _ => None,
+        }
+    }
+}
+
 /// The order of a line, before tosses are drawn and lines that stand for many events are unrolled.
 #[derive(Drop)]
 pub enum Order {
@@ -54,6 +80,53 @@ pub enum Order {
     Random(u64),
     /// So many events of a fair network that are left, and what it has kept of those before.
     Fair(u64, Fair),
+}
+
+impl Order {
+    /// Returns what the words behind the verb say.
+    fn behind(alloc: Global, verb: Verb, words: &[&[u8]]) -> Result<Option<Order>, Memory>
+        ensures some { IfOk result
+            (λ found. IfSome found (λ order. SaysBehind verb (texts words.now)
+            (order_step order))) }
+        ensures exact { (step : ScriptStep) → SaysBehind verb (texts words.now) step →
+            IfOk result (λ found. MatchOption found ⊥ (λ order. order_step order ≡ step)) }
+    {
+        match verb {
+            Verb::Propose => Ok(propose(words)),
+            Verb::Deliver => Ok(deliver(words)),
+            Verb::Group => Ok(group(words)),
+            Verb::Lie => lie(alloc, words),
+            Verb::Fuse => Ok(fuse_of(words)),
+            Verb::Crash => crash(alloc, words),
+            Verb::Restart => Ok(restart(words)),
+            Verb::Reset => Ok(reset(words)),
+            Verb::Rounds => match count(words) {
+                Some(count) => Ok(Some(Order::Rounds(count))),
+                None => Ok(None),
+            },
+            Verb::Random => match count(words) {
+                Some(count) => Ok(Some(Order::Random(count))),
+                None => Ok(None),
+            },
+            Verb::Fair => Ok(fair(alloc, words)),
+        }
+    }
+
+    /// Returns what the words say, or none where they are no line of events.
+    pub fn parse(alloc: Global, words: &[&[u8]]) -> Result<Option<Order>, Memory>
+        ensures some { IfOk result
+            (λ found. IfSome found (λ order. SaysStep (texts words.now) (order_step order))) }
+        ensures exact { (step : ScriptStep) → SaysStep (texts words.now) step →
+            IfOk result (λ found. MatchOption found ⊥ (λ order. order_step order ≡ step)) }
+    {
+        let [name, behind @ ..] = words else {
+            return Ok(None);
+        };
+        match Verb::parse(name) {
+            Some(verb) => Order::behind(alloc, verb, behind),
+            None => Ok(None),
+        }
+    }
 }
 
 /// Returns what the words behind `propose` say.
@@ -110,35 +183,15 @@ fn group(words: &[&[u8]]) -> Option<Order>
     }))
 }
 
-/// Returns what the words behind `fuse` say.
-fn fuse_of(words: &[&[u8]]) -> Option<Order>
-    ensures some { IfSome result
-        (λ order. SaysBehind Verb.Fuse (texts words.now) (order_step order)) }
-    ensures exact { (step : ScriptStep) → SaysBehind Verb.Fuse (texts words.now) step →
-        MatchOption result ⊥ (λ order. order_step order ≡ step) }
+/// The number that stands behind `rounds` or `random`.
+fn count(words: &[&[u8]]) -> Option<u64>
+    ensures some { IfSome result (One IsLong (texts words.now)) }
+    ensures exact { (count : ℕ) → One IsLong (texts words.now) count → result ≡ Some count }
 {
-    let [m, k] = words else {
+    let [k] = words else {
         return None;
     };
-    Some(Order::Once(Event::Fuse {
-        member: number8(m)?,
-        calls: fuse(k)?,
-    }))
-}
-
-/// Returns what the words behind `restart` say.
-fn restart(words: &[&[u8]]) -> Option<Order>
-    ensures some { IfSome result
-        (λ order. SaysBehind Verb.Restart (texts words.now) (order_step order)) }
-    ensures exact { (step : ScriptStep) → SaysBehind Verb.Restart (texts words.now) step →
-        MatchOption result ⊥ (λ order. order_step order ≡ step) }
-{
-    let [m] = words else {
-        return None;
-    };
-    Some(Order::Once(Event::Restart {
-        member: number8(m)?,
-    }))
+    number(k)
 }
 
 /// Returns what the words behind `lie` say.
@@ -163,21 +216,20 @@ fn lie(alloc: Global, words: &[&[u8]]) -> Result<Option<Order>, Memory>
     })))
 }
 
-/// Returns what the words behind the member of a crash say.
-fn pick(alloc: Global, words: &[&[u8]]) -> Result<Option<Pick>, Memory>
-    ensures some { IfOk result (λ found. IfSome found (ArePick (texts words.now))) }
-    ensures exact { (pick : Pick) → ArePick (texts words.now) pick →
-        IfOk result (λ found. MatchOption found ⊥ (λ found. found ≡ pick)) }
+/// Returns what the words behind `fuse` say.
+fn fuse_of(words: &[&[u8]]) -> Option<Order>
+    ensures some { IfSome result
+        (λ order. SaysBehind Verb.Fuse (texts words.now) (order_step order)) }
+    ensures exact { (step : ScriptStep) → SaysBehind Verb.Fuse (texts words.now) step →
+        MatchOption result ⊥ (λ order. order_step order ≡ step) }
 {
-    match words {
-        [word] if is(word, "kept") => Ok(Some(Pick::Kept)),
-        [word] if is(word, "lost") => Ok(Some(Pick::Lost)),
-        [word, digits] if is(word, "fill") => match byte(alloc, digits)? {
-            Some(byte) => Ok(Some(Pick::Fill(byte))),
-            None => Ok(None),
-        },
-        _ => Ok(None),
-    }
+    let [m, k] = words else {
+        return None;
+    };
+    Some(Order::Once(Event::Fuse {
+        member: number8(m)?,
+        calls: fuse(k)?,
+    }))
 }
 
 /// Returns what the words behind `crash` say.
@@ -198,6 +250,38 @@ fn crash(alloc: Global, words: &[&[u8]]) -> Result<Option<Order>, Memory>
         Some(pick) => Ok(Some(Order::Once(Event::Crash { member, pick }))),
         None => Ok(None),
     }
+}
+
+/// Returns what the words behind the member of a crash say.
+fn pick(alloc: Global, words: &[&[u8]]) -> Result<Option<Pick>, Memory>
+    ensures some { IfOk result (λ found. IfSome found (ArePick (texts words.now))) }
+    ensures exact { (pick : Pick) → ArePick (texts words.now) pick →
+        IfOk result (λ found. MatchOption found ⊥ (λ found. found ≡ pick)) }
+{
+    match words {
+        [word] if is(word, "kept") => Ok(Some(Pick::Kept)),
+        [word] if is(word, "lost") => Ok(Some(Pick::Lost)),
+        [word, digits] if is(word, "fill") => match byte(alloc, digits)? {
+            Some(byte) => Ok(Some(Pick::Fill(byte))),
+            None => Ok(None),
+        },
+        _ => Ok(None),
+    }
+}
+
+/// Returns what the words behind `restart` say.
+fn restart(words: &[&[u8]]) -> Option<Order>
+    ensures some { IfSome result
+        (λ order. SaysBehind Verb.Restart (texts words.now) (order_step order)) }
+    ensures exact { (step : ScriptStep) → SaysBehind Verb.Restart (texts words.now) step →
+        MatchOption result ⊥ (λ order. order_step order ≡ step) }
+{
+    let [m] = words else {
+        return None;
+    };
+    Some(Order::Once(Event::Restart {
+        member: number8(m)?,
+    }))
 }
 
 /// Returns what the words behind `reset` say.
@@ -227,88 +311,4 @@ fn fair(alloc: Global, words: &[&[u8]]) -> Option<Order>
         return None;
     };
     Some(Order::Fair(number(k)?, Fair::new(alloc)))
-}
-
-/// The number that stands behind `rounds` or `random`.
-fn count(words: &[&[u8]]) -> Option<u64>
-    ensures some { IfSome result (One IsLong (texts words.now)) }
-    ensures exact { (count : ℕ) → One IsLong (texts words.now) count → result ≡ Some count }
-{
-    let [k] = words else {
-        return None;
-    };
-    number(k)
-}
-
-impl Verb {
-    /// The verb of this name.
-    fn parse(name: &[u8]) -> Option<Verb>
-        ensures some { IfSome result (λ verb. name.now ≡ verb_name verb) }
-        ensures exact { (verb : Verb) → name.now ≡ verb_name verb → result ≡ Some verb }
-    {
-        let Ok(name) = str::from_utf8(name) else {
-            return None;
-        };
-        match name {
-            "propose" => Some(Verb::Propose),
-            "deliver" => Some(Verb::Deliver),
-            "group" => Some(Verb::Group),
-            "lie" => Some(Verb::Lie),
-            "fuse" => Some(Verb::Fuse),
-            "crash" => Some(Verb::Crash),
-            "restart" => Some(Verb::Restart),
-            "reset" => Some(Verb::Reset),
-            "rounds" => Some(Verb::Rounds),
-            "random" => Some(Verb::Random),
-            "fair" => Some(Verb::Fair),
-            _ => None,
-        }
-    }
-}
-
-impl Order {
-    /// Returns what the words behind the verb say.
-    fn behind(alloc: Global, verb: Verb, words: &[&[u8]]) -> Result<Option<Order>, Memory>
-        ensures some { IfOk result
-            (λ found. IfSome found (λ order. SaysBehind verb (texts words.now)
-            (order_step order))) }
-        ensures exact { (step : ScriptStep) → SaysBehind verb (texts words.now) step →
-            IfOk result (λ found. MatchOption found ⊥ (λ order. order_step order ≡ step)) }
-    {
-        match verb {
-            Verb::Propose => Ok(propose(words)),
-            Verb::Deliver => Ok(deliver(words)),
-            Verb::Group => Ok(group(words)),
-            Verb::Lie => lie(alloc, words),
-            Verb::Fuse => Ok(fuse_of(words)),
-            Verb::Crash => crash(alloc, words),
-            Verb::Restart => Ok(restart(words)),
-            Verb::Reset => Ok(reset(words)),
-            Verb::Rounds => match count(words) {
-                Some(count) => Ok(Some(Order::Rounds(count))),
-                None => Ok(None),
-            },
-            Verb::Random => match count(words) {
-                Some(count) => Ok(Some(Order::Random(count))),
-                None => Ok(None),
-            },
-            Verb::Fair => Ok(fair(alloc, words)),
-        }
-    }
-
-    /// Returns what the words say, or none where they are no line of events.
-    pub fn parse(alloc: Global, words: &[&[u8]]) -> Result<Option<Order>, Memory>
-        ensures some { IfOk result
-            (λ found. IfSome found (λ order. SaysStep (texts words.now) (order_step order))) }
-        ensures exact { (step : ScriptStep) → SaysStep (texts words.now) step →
-            IfOk result (λ found. MatchOption found ⊥ (λ order. order_step order ≡ step)) }
-    {
-        let [name, behind @ ..] = words else {
-            return Ok(None);
-        };
-        match Verb::parse(name) {
-            Some(verb) => Order::behind(alloc, verb, behind),
-            None => Ok(None),
-        }
-    }
 }

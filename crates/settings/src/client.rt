@@ -94,6 +94,16 @@ impl ClientSettings {
     }
 }
 
+/// The text of the settings, of which nothing is known to be read as it stands.
+fn client_text(alloc: Global, settings: &ClientSettings) -> Result<String, AllocError>
+    ensures { IfOk result (λ text. string_bytes text ≡ client_text settings.now) }
+{
+    let sized = sized_text(alloc, settings.cluster, settings.size)?;
+    let desks = peer_entries(alloc, &settings.desks)?;
+    let chain = chain_line(alloc, settings.chain)?;
+    format!(in alloc; "{sized}desks = [\n{desks}]\n{chain}")
+}
+
 /// The line of a chain's clients.
 fn chain_line(alloc: Global, chain: bool) -> Result<String, AllocError>
     ensures { IfOk result (λ text. string_bytes text ≡ chain_line chain) }
@@ -105,23 +115,6 @@ fn chain_line(alloc: Global, chain: bool) -> Result<String, AllocError>
     }
 }
 
-/// The text of the settings, of which nothing is known to be read as it stands.
-fn client_text(alloc: Global, settings: &ClientSettings) -> Result<String, AllocError>
-    ensures { IfOk result (λ text. string_bytes text ≡ client_text settings.now) }
-{
-    let sized = sized_text(alloc, settings.cluster, settings.size)?;
-    let desks = peer_entries(alloc, &settings.desks)?;
-    let chain = chain_line(alloc, settings.chain)?;
-    format!(in alloc; "{sized}desks = [\n{desks}]\n{chain}")
-}
-
-/// Returns `true` if the two have the same desks.
-fn has_same_desks(read: &ClientSettings, settings: &ClientSettings) -> bool
-    ensures { IsTrue result → read.now.desks.items ≡ settings.now.desks.items }
-{
-    read.desks.as_slice() == settings.desks.as_slice()
-}
-
 /// Returns `true` if what was read is what was to be written.
 fn is_like_client(read: &ClientSettings, settings: &ClientSettings) -> bool
     ensures { IsTrue result → IsLikeClient read.now settings.now }
@@ -130,4 +123,11 @@ fn is_like_client(read: &ClientSettings, settings: &ClientSettings) -> bool
         && read.size == settings.size
         && read.chain == settings.chain
         && has_same_desks(read, settings)
+}
+
+/// Returns `true` if the two have the same desks.
+fn has_same_desks(read: &ClientSettings, settings: &ClientSettings) -> bool
+    ensures { IsTrue result → read.now.desks.items ≡ settings.now.desks.items }
+{
+    read.desks.as_slice() == settings.desks.as_slice()
 }

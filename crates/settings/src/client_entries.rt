@@ -13,34 +13,6 @@ use numerals::size_from;
 use std::alloc::Global;
 use toml::Table;
 
-/// Returns `true` if the two have one host and one port.
-fn is_same(one: &Address, other: &Address) -> bool
-    ensures { result ≡ is_same one.now other.now }
-{
-    one == other
-}
-
-/// Returns at how many places of the list the address stands.
-fn count_of(desks: &[Address], desk: &Address) -> usize
-    ensures { result ≡ count_of desks.now desk.now }
-{
-    desks.iter().filter(|other| is_same(desk, other)).count()
-}
-
-/// Returns `true` if an address stands at two places of the list, or more.
-fn stands_twice(desks: &[Address]) -> bool
-    ensures { result ≡ stands_twice desks.now }
-{
-    desks.iter().any(|desk| count_of(desks, desk) > 1)
-}
-
-/// Returns `true` if there are n desks, and each is another one.
-fn are_desks_of(n: u8, desks: &[Address]) -> bool
-    ensures { result ≡ are_desks_of n desks.now }
-{
-    desks.len() == usize::from(n) && !stands_twice(desks)
-}
-
 /// The settings' entries, each in its own range.
 #[derive(Drop)]
 pub struct ClientEntries {
@@ -101,4 +73,32 @@ impl ClientEntries {
             chain: self.chain,
         })
     }
+}
+
+/// Returns `true` if there are n desks, and each is another one.
+fn are_desks_of(n: u8, desks: &[Address]) -> bool
+    ensures { result ≡ are_desks_of n desks.now }
+{
+    desks.len() == usize::from(n) && !stands_twice(desks)
+}
+
+/// Returns `true` if an address stands at two places of the list, or more.
+fn stands_twice(desks: &[Address]) -> bool
+    ensures { result ≡ stands_twice desks.now }
+{
+    desks.iter().any(|desk| count_of(desks, desk) > 1)
+}
+
+/// Returns at how many places of the list the address stands.
+fn count_of(desks: &[Address], desk: &Address) -> usize
+    ensures { result ≡ count_of desks.now desk.now }
+{
+    desks.iter().filter(|other| is_same(desk, other)).count()
+}
+
+/// Returns `true` if the two have one host and one port.
+fn is_same(one: &Address, other: &Address) -> bool
+    ensures { result ≡ is_same one.now other.now }
+{
+    one == other
 }

@@ -50,13 +50,6 @@ fn address_at(host: &str, first: u16, member: usize) -> Option<Address>
     Some(Address { octets, port })
 }
 
-/// Returns how many ports lie between the first link's and the first desk's.
-fn desk_gap(n: u8) -> u16
-    ensures { result ≡ desk_gap n }
-{
-    if u16::from(n) > GAP { FAR_GAP } else { GAP }
-}
-
 /// Returns the port of the first member's desk in a new cluster of `n` members whose links are at
 /// the ports from `first` on: `first` + 10, or `first` + 100 if `n` is above 10. `None` if `first`
 /// is 0 or the last desk's port would be above 65535.
@@ -73,6 +66,13 @@ pub fn desk_base(first: u16, n: u8) -> Option<u16>
         return None;
     }
     Some(base)
+}
+
+/// Returns how many ports lie between the first link's and the first desk's.
+fn desk_gap(n: u8) -> u16
+    ensures { result ≡ desk_gap n }
+{
+    if u16::from(n) > GAP { FAR_GAP } else { GAP }
 }
 
 /// Returns the settings of the member of this header in a new cluster whose members listen to one

@@ -18,15 +18,6 @@ use std::alloc::{AllocError, Global};
 use terms::{Header, Size};
 use toml::{Table, Value};
 
-/// The value at a key, if the table has the key.
-fn value_at(table: &Table, key: Key) -> Option<&Value>
-    ensures { MatchOption result
-        (get_member (key_text key) (table_view table.now) ≡ None)
-        (λ value. get_member (key_text key) (table_view table.now) ≡ Some (view value.now)) }
-{
-    table.get(key.text())
-}
-
 /// The integer at a key, which isn't negative.
 pub(crate) fn number(table: &Table, key: Key) -> Result<u64, SettingsFault>
     ensures ok { IfOk result (HasNumber (table_view table.now) key) }
@@ -49,34 +40,19 @@ pub(crate) fn small(table: &Table, key: Key) -> Result<u16, SettingsFault>
         .ok_or(SettingsFault::Key(key))
 }
 
-/// The address that a value is the text of.
-fn address_of(value: &Value) -> Option<Address>
-    ensures some { IfSome result (IsAddressText (view value.now)) }
-    ensures exact { (address : Address) → IsAddressText (view value.now) address →
-        result ≡ Some address }
-{
-    Address::parse(value.as_str()?)
-}
-
-/// The address at a key.
-fn address(table: &Table, key: Key) -> Result<Address, SettingsFault>
-    ensures ok { IfOk result (HasAddress (table_view table.now) key) }
-    ensures fault { IfErr result (IsLack key (HasAddress (table_view table.now) key)) }
+/// The addresses at a key, or that it has none.
+pub(crate) fn addresses(
+    alloc: Global,
+    table: &Table,
+    key: Key,
+) -> Result<Vec<Address>, SettingsFault>
+    ensures ok { IfOk result
+        (λ addresses. HasAddresses (table_view table.now) key addresses.items) }
+    ensures fault { IfErr result (IsLackOrMemory key (HasAddresses (table_view table.now) key)) }
 {
     let fault = SettingsFault::Key(key);
-    let text = value_at(table, key).and_then(Value::as_str).ok_or(fault)?;
-    Address::parse(text).ok_or(fault)
-}
-
-/// The 32 bytes that the 64 digits at a key write.
-fn seed(table: &Table, key: Key) -> Result<[u8; 32], SettingsFault>
-    ensures ok { IfOk result (HasSeed (table_view table.now) key) }
-    ensures fault { IfErr result (IsLack key (HasSeed (table_view table.now) key)) }
-{
-    value_at(table, key)
-        .and_then(Value::as_str)
-        .and_then(|digits| <[u8; 32]>::from_hex(digits).ok())
-        .ok_or(SettingsFault::Key(key))
+    let values = value_at(table, key).and_then(Value::as_array).ok_or(fault)?;
+    addresses_of(alloc, values)?.ok_or(fault)
 }
 
 /// The addresses that the values are the texts of, if each is one.
@@ -95,59 +71,13 @@ fn addresses_of(alloc: Global, values: &[Value]) -> Result<Option<Vec<Address>>,
     Ok(Some(addresses))
 }
 
-/// The addresses at a key, or that it has none.
-pub(crate) fn addresses(
-    alloc: Global,
-    table: &Table,
-    key: Key,
-) -> Result<Vec<Address>, SettingsFault>
-    ensures ok { IfOk result
-        (λ addresses. HasAddresses (table_view table.now) key addresses.items) }
-    ensures fault { IfErr result (IsLackOrMemory key (HasAddresses (table_view table.now) key)) }
+/// The address that a value is the text of.
+fn address_of(value: &Value) -> Option<Address>
+    ensures some { IfSome result (IsAddressText (view value.now)) }
+    ensures exact { (address : Address) → IsAddressText (view value.now) address →
+        result ≡ Some address }
 {
-    let fault = SettingsFault::Key(key);
-    let values = value_at(table, key).and_then(Value::as_array).ok_or(fault)?;
-    addresses_of(alloc, values)?.ok_or(fault)
-}
-
-/// The path at a key, or that it has none.
-fn path(alloc: Global, table: &Table, key: Key) -> Result<String, SettingsFault>
-    ensures ok { IfOk result (λ path. HasPath (table_view table.now) key (string_bytes path)) }
-    ensures fault { IfErr result (IsLackOrMemory key (HasPath (table_view table.now) key)) }
-{
-    match value_at(table, key).and_then(Value::as_str) {
-        Some(path) if !path.is_empty() => Ok(String::from_str(alloc, path)?),
-        _ => Err(SettingsFault::Key(key)),
-    }
-}
-
-/// The address at a key, if the table has the key.
-fn optional_address(table: &Table, key: Key) -> Result<Option<Address>, SettingsFault>
-    ensures ok { IfOk result (MayHaveAddress (table_view table.now) key) }
-    ensures fault { IfErr result (IsLack key (MayHaveAddress (table_view table.now) key)) }
-{
-    match value_at(table, key) {
-        None => Ok(None),
-        Some(_value) => match address(table, key) {
-            Ok(address) => Ok(Some(address)),
-            Err(fault) => Err(fault),
-        },
-    }
-}
-
-/// The path at a key, if the table has the key.
-fn optional_path(alloc: Global, table: &Table, key: Key) -> Result<Option<String>, SettingsFault>
-    ensures ok { IfOk result
-        (λ path. MayHavePath (table_view table.now) key (option_map string_bytes path)) }
-    ensures fault { IfErr result (IsLackOrMemory key (MayHavePath (table_view table.now) key)) }
-{
-    match value_at(table, key) {
-        None => Ok(None),
-        Some(_value) => match path(alloc, table, key) {
-            Ok(path) => Ok(Some(path)),
-            Err(fault) => Err(fault),
-        },
-    }
+    Address::parse(value.as_str()?)
 }
 
 /// The boolean at a key; `false` if the table hasn't the key.
@@ -228,6 +158,76 @@ impl Entries {
             epochs: self.epochs,
         })
     }
+}
+
+/// The 32 bytes that the 64 digits at a key write.
+fn seed(table: &Table, key: Key) -> Result<[u8; 32], SettingsFault>
+    ensures ok { IfOk result (HasSeed (table_view table.now) key) }
+    ensures fault { IfErr result (IsLack key (HasSeed (table_view table.now) key)) }
+{
+    value_at(table, key)
+        .and_then(Value::as_str)
+        .and_then(|digits| <[u8; 32]>::from_hex(digits).ok())
+        .ok_or(SettingsFault::Key(key))
+}
+
+/// The address at a key, if the table has the key.
+fn optional_address(table: &Table, key: Key) -> Result<Option<Address>, SettingsFault>
+    ensures ok { IfOk result (MayHaveAddress (table_view table.now) key) }
+    ensures fault { IfErr result (IsLack key (MayHaveAddress (table_view table.now) key)) }
+{
+    match value_at(table, key) {
+        None => Ok(None),
+        Some(_value) => match address(table, key) {
+            Ok(address) => Ok(Some(address)),
+            Err(fault) => Err(fault),
+        },
+    }
+}
+
+/// The address at a key.
+fn address(table: &Table, key: Key) -> Result<Address, SettingsFault>
+    ensures ok { IfOk result (HasAddress (table_view table.now) key) }
+    ensures fault { IfErr result (IsLack key (HasAddress (table_view table.now) key)) }
+{
+    let fault = SettingsFault::Key(key);
+    let text = value_at(table, key).and_then(Value::as_str).ok_or(fault)?;
+    Address::parse(text).ok_or(fault)
+}
+
+/// The path at a key, if the table has the key.
+fn optional_path(alloc: Global, table: &Table, key: Key) -> Result<Option<String>, SettingsFault>
+    ensures ok { IfOk result
+        (λ path. MayHavePath (table_view table.now) key (option_map string_bytes path)) }
+    ensures fault { IfErr result (IsLackOrMemory key (MayHavePath (table_view table.now) key)) }
+{
+    match value_at(table, key) {
+        None => Ok(None),
+        Some(_value) => match path(alloc, table, key) {
+            Ok(path) => Ok(Some(path)),
+            Err(fault) => Err(fault),
+        },
+    }
+}
+
+/// The path at a key, or that it has none.
+fn path(alloc: Global, table: &Table, key: Key) -> Result<String, SettingsFault>
+    ensures ok { IfOk result (λ path. HasPath (table_view table.now) key (string_bytes path)) }
+    ensures fault { IfErr result (IsLackOrMemory key (HasPath (table_view table.now) key)) }
+{
+    match value_at(table, key).and_then(Value::as_str) {
+        Some(path) if !path.is_empty() => Ok(String::from_str(alloc, path)?),
+        _ => Err(SettingsFault::Key(key)),
+    }
+}
+
+/// The value at a key, if the table has the key.
+fn value_at(table: &Table, key: Key) -> Option<&Value>
+    ensures { MatchOption result
+        (get_member (key_text key) (table_view table.now) ≡ None)
+        (λ value. get_member (key_text key) (table_view table.now) ≡ Some (view value.now)) }
+{
+    table.get(key.text())
 }
 
 /// The header of the member, if there is such a member.

@@ -26,13 +26,6 @@ pub fn address_text(alloc: Global, address: &Address) -> Result<String, AllocErr
     )
 }
 
-/// The line of a peer.
-fn peer_entry(alloc: Global, peer: &Address) -> Result<String, AllocError>
-    ensures { IfOk result (λ text. string_bytes text ≡ peer_entry peer.now) }
-{
-    format!(in alloc; "    \"{}\",\n", address_text(alloc, peer)?)
-}
-
 /// The lines of the peers, in order.
 pub(crate) fn peer_entries(alloc: Global, peers: &[Address]) -> Result<String, AllocError>
     ensures { IfOk result (λ text. string_bytes text ≡ flat_map peer_entry peers.now) }
@@ -44,18 +37,11 @@ pub(crate) fn peer_entries(alloc: Global, peers: &[Address]) -> Result<String, A
     Ok(text)
 }
 
-/// The line of a key with a number.
-fn number_line(alloc: Global, key: Key, number: u64) -> Result<String, AllocError>
-    ensures { IfOk result (λ text. string_bytes text ≡ number_line key number) }
+/// The line of a peer.
+fn peer_entry(alloc: Global, peer: &Address) -> Result<String, AllocError>
+    ensures { IfOk result (λ text. string_bytes text ≡ peer_entry peer.now) }
 {
-    format!(in alloc; "{} = {}\n", key.text(), number)
-}
-
-/// The line of a key with a text.
-fn text_line(alloc: Global, key: Key, value: &str) -> Result<String, AllocError>
-    ensures { IfOk result (λ text. string_bytes text ≡ text_line key value.now) }
-{
-    format!(in alloc; "{} = \"{}\"\n", key.text(), value)
+    format!(in alloc; "    \"{}\",\n", address_text(alloc, peer)?)
 }
 
 /// The lines of a cluster's number and its size.
@@ -69,6 +55,40 @@ pub(crate) fn sized_text(alloc: Global, cluster: u64, size: Size) -> Result<Stri
     Ok(text)
 }
 
+impl Settings {
+    /// The settings as a text of TOML, a line for each key, which [`Settings::parse`] reads as
+    /// these settings.
+    ///
+    /// [`SettingsFault::Text`]: it would be read as others, as where the journal's path has a
+    /// quotation mark or where there are not n peers. [`SettingsFault::Memory`]: memory was
+    /// refused.
+    pub fn to_text(&self, alloc: Global) -> Result<String, SettingsFault>
+        ensures text { IfOk result (λ text. string_bytes text ≡ toml_text self.now) }
+        ensures read { IfOk result
+            (λ text. IsSettings (parse_document (string_bytes text)) self.now) }
+    {
+        let text = toml_text(alloc, self)?;
+        let read = Settings::parse(alloc, text.as_str())?;
+        if is_like(&read, self) {
+            Ok(text)
+        } else {
+            Err(SettingsFault::Text)
+        }
+    }
+}
+
+/// The text of the settings, of which nothing is known to be read as it stands.
+fn toml_text(alloc: Global, settings: &Settings) -> Result<String, AllocError>
+    ensures { IfOk result (λ text. string_bytes text ≡ toml_text settings.now) }
+{
+    let head = head_text(alloc, &settings.header)?;
+    let journal = text_line(alloc, Key::Journal, settings.journal.as_str())?;
+    let peers = peer_entries(alloc, &settings.peers)?;
+    let options = options_text(alloc, settings)?;
+    let own = own_text(alloc, settings)?;
+    format!(in alloc; "{head}{journal}peers = [\n{peers}]\n{options}{own}")
+}
+
 /// The lines of the header.
 fn head_text(alloc: Global, header: &Header) -> Result<String, AllocError>
     ensures { IfOk result (λ text. string_bytes text ≡ head_text header.now) }
@@ -76,6 +96,23 @@ fn head_text(alloc: Global, header: &Header) -> Result<String, AllocError>
     let mut text = sized_text(alloc, header.cluster(), header.size())?;
     text.push_str(number_line(alloc, Key::Me, u64::from(header.me()))?.as_str())?;
     Ok(text)
+}
+
+/// The line of a key with a number.
+fn number_line(alloc: Global, key: Key, number: u64) -> Result<String, AllocError>
+    ensures { IfOk result (λ text. string_bytes text ≡ number_line key number) }
+{
+    format!(in alloc; "{} = {}\n", key.text(), number)
+}
+
+/// The lines of the keys that may be left out.
+fn options_text(alloc: Global, settings: &Settings) -> Result<String, AllocError>
+    ensures { IfOk result (λ text. string_bytes text ≡ options_text settings.now) }
+{
+    let listen = listen_line(alloc, &settings.listen)?;
+    let socket = path_line(alloc, Key::DeskSocket, &settings.desk_socket)?;
+    let epochs = path_line(alloc, Key::Epochs, &settings.epochs)?;
+    format!(in alloc; "{listen}{socket}{epochs}")
 }
 
 /// The line of the address that is listened at, if there is one.
@@ -100,16 +137,6 @@ fn path_line(alloc: Global, key: Key, path: &Option<String>) -> Result<String, A
     }
 }
 
-/// The lines of the keys that may be left out.
-fn options_text(alloc: Global, settings: &Settings) -> Result<String, AllocError>
-    ensures { IfOk result (λ text. string_bytes text ≡ options_text settings.now) }
-{
-    let listen = listen_line(alloc, &settings.listen)?;
-    let socket = path_line(alloc, Key::DeskSocket, &settings.desk_socket)?;
-    let epochs = path_line(alloc, Key::Epochs, &settings.epochs)?;
-    format!(in alloc; "{listen}{socket}{epochs}")
-}
-
 /// The lines of the desk and the seed.
 fn own_text(alloc: Global, settings: &Settings) -> Result<String, AllocError>
     ensures { IfOk result (λ text. string_bytes text ≡ own_text settings.now) }
@@ -125,26 +152,20 @@ fn own_text(alloc: Global, settings: &Settings) -> Result<String, AllocError>
     )
 }
 
-/// The text of the settings, of which nothing is known to be read as it stands.
-fn toml_text(alloc: Global, settings: &Settings) -> Result<String, AllocError>
-    ensures { IfOk result (λ text. string_bytes text ≡ toml_text settings.now) }
+/// The line of a key with a text.
+fn text_line(alloc: Global, key: Key, value: &str) -> Result<String, AllocError>
+    ensures { IfOk result (λ text. string_bytes text ≡ text_line key value.now) }
 {
-    let head = head_text(alloc, &settings.header)?;
-    let journal = text_line(alloc, Key::Journal, settings.journal.as_str())?;
-    let peers = peer_entries(alloc, &settings.peers)?;
-    let options = options_text(alloc, settings)?;
-    let own = own_text(alloc, settings)?;
-    format!(in alloc; "{head}{journal}peers = [\n{peers}]\n{options}{own}")
+    format!(in alloc; "{} = \"{}\"\n", key.text(), value)
 }
 
-/// Returns `true` if the two have the same journal and the same peers.
-fn has_same_lists(read: &Settings, settings: &Settings) -> bool
-    ensures journal { IsTrue result →
-        string_bytes read.now.journal ≡ string_bytes settings.now.journal }
-    ensures peers { IsTrue result → read.now.peers.items ≡ settings.now.peers.items }
+/// Returns `true` if what was read is what was to be written.
+fn is_like(read: &Settings, settings: &Settings) -> bool
+    ensures { IsTrue result → IsLike read.now settings.now }
 {
-    read.journal.as_str() == settings.journal.as_str()
-        && read.peers.as_slice() == settings.peers.as_slice()
+    has_same_values(read, settings)
+        && has_same_lists(read, settings)
+        && has_same_options(read, settings)
 }
 
 /// Returns `true` if the two have the same header, desk and seed.
@@ -156,26 +177,14 @@ fn has_same_values(read: &Settings, settings: &Settings) -> bool
     read.header == settings.header && read.desk == settings.desk && read.seed == settings.seed
 }
 
-/// Returns `true` if the two paths are the same, or both are missing.
-fn is_same_path(read: &Option<String>, path: &Option<String>) -> bool
-    ensures { IsTrue result → option_map string_bytes read.now ≡ option_map string_bytes path.now }
+/// Returns `true` if the two have the same journal and the same peers.
+fn has_same_lists(read: &Settings, settings: &Settings) -> bool
+    ensures journal { IsTrue result →
+        string_bytes read.now.journal ≡ string_bytes settings.now.journal }
+    ensures peers { IsTrue result → read.now.peers.items ≡ settings.now.peers.items }
 {
-    match (read, path) {
-        (None, None) => true,
-        (Some(read), Some(path)) => read.as_str() == path.as_str(),
-        _ => false,
-    }
-}
-
-/// Returns `true` if the two addresses are the same, or both are missing.
-fn is_same_address(read: &Option<Address>, address: &Option<Address>) -> bool
-    ensures { IsTrue result → read.now ≡ address.now }
-{
-    match (read, address) {
-        (None, None) => true,
-        (Some(read), Some(address)) => *read == *address,
-        _ => false,
-    }
+    read.journal.as_str() == settings.journal.as_str()
+        && read.peers.as_slice() == settings.peers.as_slice()
 }
 
 /// Returns `true` if the two have the same values of the keys that may be left out.
@@ -192,33 +201,24 @@ fn has_same_options(read: &Settings, settings: &Settings) -> bool
         && is_same_path(&read.epochs, &settings.epochs)
 }
 
-/// Returns `true` if what was read is what was to be written.
-fn is_like(read: &Settings, settings: &Settings) -> bool
-    ensures { IsTrue result → IsLike read.now settings.now }
+/// Returns `true` if the two addresses are the same, or both are missing.
+fn is_same_address(read: &Option<Address>, address: &Option<Address>) -> bool
+    ensures { IsTrue result → read.now ≡ address.now }
 {
-    has_same_values(read, settings)
-        && has_same_lists(read, settings)
-        && has_same_options(read, settings)
+    match (read, address) {
+        (None, None) => true,
+        (Some(read), Some(address)) => *read == *address,
+        _ => false,
+    }
 }
 
-impl Settings {
-    /// The settings as a text of TOML, a line for each key, which [`Settings::parse`] reads as
-    /// these settings.
-    ///
-    /// [`SettingsFault::Text`]: it would be read as others, as where the journal's path has a
-    /// quotation mark or where there are not n peers. [`SettingsFault::Memory`]: memory was
-    /// refused.
-    pub fn to_text(&self, alloc: Global) -> Result<String, SettingsFault>
-        ensures text { IfOk result (λ text. string_bytes text ≡ toml_text self.now) }
-        ensures read { IfOk result
-            (λ text. IsSettings (parse_document (string_bytes text)) self.now) }
-    {
-        let text = toml_text(alloc, self)?;
-        let read = Settings::parse(alloc, text.as_str())?;
-        if is_like(&read, self) {
-            Ok(text)
-        } else {
-            Err(SettingsFault::Text)
-        }
+/// Returns `true` if the two paths are the same, or both are missing.
+fn is_same_path(read: &Option<String>, path: &Option<String>) -> bool
+    ensures { IsTrue result → option_map string_bytes read.now ≡ option_map string_bytes path.now }
+{
+    match (read, path) {
+        (None, None) => true,
+        (Some(read), Some(path)) => read.as_str() == path.as_str(),
+        _ => false,
     }
 }

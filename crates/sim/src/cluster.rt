@@ -161,66 +161,6 @@ impl Cluster {
     }
 }
 
-/// Runs a script against a whole cluster, the one of number 0. The script, what was marked and what
-/// was decided are a run of the crate `world`; so its promises hold of them (the properties have
-/// the names of Cachin, Guerraoui and Rodrigues, chapter 5).
-///
-/// The liars are numbers of members, upwards. Each member has its disk, by number; a journal is
-/// created on the disks of correct members alone, on all of them before the first is opened. On an
-/// error nothing is left of the cluster.
-///
-/// - `bad_liars`: `BadLiars` exactly where the liars' numbers don't rise, one is not below n, or
-///   they are more than t.
-/// - `bad_disks`: `BadDisks` exactly where the liars are right, and there are not n disks or one is
-///   not empty.
-/// - `device`: `Device` only where a fuse is in the disk of a correct member; it comes before the
-///   first event.
-/// - `run`: the events with their marks are steps of the world from its start, event by event; each
-///   mark is the one that the event has there, and the verdicts are all decisions that correct
-///   members have saved in the end, by member and then by question. What an event saved is all that
-///   its member's journal has there behind what it had before, in order; an event whose plan is to
-///   skip it saved nothing.
-/// - `few_lie`: at most t lie in it, so what the theorem says of settled worlds can be asked of its
-///   last world too.
-/// - `agree`: two verdicts of one question have one bit.
-/// - `unanimous`: where all proposals of a question that weren't skipped are of one bit, so is each
-///   verdict of it.
-/// - `never_full`: `Full` never comes, whatever the size and the script: all that a correct member
-///   may ever save, at most one statement of each kind at each place and one decision of each
-///   question, has room in its journal.
-///
-/// `Memory` comes where there is no memory.
-pub fn run(
-    alloc: Global,
-    size: Size,
-    liars: &[u8],
-    disks: Vec<MemDisk>,
-    script: &[Event],
-) -> Result<Outcome, SimFault>
-    ensures bad_liars { IsErrOf result faults.BadLiars ↔ (AreLiars size liars.now → ⊥) }
-    ensures bad_disks { IsErrOf result faults.BadDisks
-        ↔ (AreLiars size liars.now × (AreDisks size disks.items → ⊥)) }
-    ensures device { IsErrOf result faults.Device → HasFuse liars.now disks.items }
-    ensures run { IfOk result
-        (λ outcome. IsSimulation size (among liars.now)
-        (fused_in disks.items) script.now outcome.marks.items outcome.saved.items
-        outcome.verdicts.items) }
-    ensures few_lie { IfOk result (λ _. count_below size.n (among liars.now) ≤ size.t) }
-    ensures agree { IfOk result (λ outcome. HaveOneBit outcome.verdicts.items) }
-    ensures unanimous { IfOk result
-        (λ outcome. AreUnanimous script.now outcome.marks.items outcome.verdicts.items) }
-    ensures never_full { result ≡ Err faults.Full → ⊥ }
-{
-    let mut cluster = Cluster::open(alloc, size, liars, disks)?;
-    let (marks, saved) = follow(alloc, &mut cluster, script)?;
-    let verdicts = cluster.verdicts(alloc)?;
-    Ok(Outcome {
-        marks,
-        verdicts,
-        saved,
-    })
-}
-
 /// Returns `true` if these may be the liars' numbers: they rise, are below n, and at most t.
 fn are_liars(size: Size, liars: &[u8]) -> bool
     ensures { IsTrue result ↔ AreLiars size liars.now }
@@ -240,93 +180,6 @@ fn are_disks(size: Size, disks: &[MemDisk]) -> bool
     ensures { IsTrue result ↔ AreDisks size disks.now }
 {
     disks.len() == usize::from(size.n()) && disks.iter().all(|disk| disk.is_empty())
-}
-
-/// The posts of all members, the journals created and then opened.
-fn opened(
-    alloc: Global,
-    size: Size,
-    liars: &[u8],
-    disks: Vec<MemDisk>,
-) -> Result<Vec<Post>, SimFault>
-    requires count { length disks.items ≡ size.n }
-    ensures ready { IfOk result (λ posts. AreReady size posts.items) }
-    ensures cluster { IfOk result (λ posts.
-        IsCluster size (among liars.now) (opening (fused_in disks.items)) posts.items) }
-    ensures device { IsErrOf result faults.Device → HasFuse liars.now disks.items }
-    ensures only { IfErr result IsOfOpening }
-{
-    let mut posts = posts(alloc, size, liars, disks)?;
-    begin(alloc, posts.as_mut_slice())?;
-    Ok(posts)
-}
-
-/// The posts of all members, the journals created and not yet opened.
-fn posts(
-    alloc: Global,
-    size: Size,
-    liars: &[u8],
-    disks: Vec<MemDisk>,
-) -> Result<Vec<Post>, SimFault>
-    requires count { length disks.items ≡ size.n }
-    ensures count { IfOk result (λ posts. length posts.items ≡ length disks.items) }
-    ensures each { IfOk result
-        (λ posts. (p : ℕ) (d : Post) → p < length posts.items → IsReady (get_or posts.items p d)
-        × IsCreated (mine size p) (among liars.now p) (fused_in disks.items p)
-        (get_or posts.items p d)) }
-    ensures device { IsErrOf result faults.Device → HasFuse liars.now disks.items }
-    ensures only { IfErr result IsOfOpening }
-{
-    let mut posts = Vec::with_capacity(alloc, disks.len())?;
-    let mut me = 0;
-    for disk in disks {
-        let Some(header) = Header::new(0, size, me) else {
-            return Err(SimFault::BadDisks);
-        };
-        posts.push(Post::new(alloc, header, liars.contains(&me), disk)?)?;
-        me += 1;
-    }
-    Ok(posts)
-}
-
-/// Opens all journals, upwards.
-fn begin(alloc: Global, posts: &mut [Post]) -> Result<(), SimFault>
-    requires ready { (p : ℕ) (d : Post) → p < length posts.old → IsReady (get_or posts.old p d) }
-    ensures count { length posts.new ≡ length posts.old }
-    ensures opened { OnOk result ((p : ℕ) (d : Post) → p < length posts.old →
-        OpensPost (get_or posts.old p d) (get_or posts.new p d)) }
-    ensures only { IfErr result IsOfOpening }
-    ensures device { IsErrOf result faults.Device → (p : ℕ) × (p < length posts.old) × ((d : Post) →
-        (is_liar (get_or posts.old p d).presence ≡ false) × ((get_or posts.old p d).fused ≡ true)) }
-{
-    for post in posts.iter_mut() {
-        post.begin(alloc)?;
-    }
-    Ok(())
-}
-
-/// Plays all events: of each its mark, and what it saved.
-fn follow(
-    alloc: Global,
-    cluster: &mut Cluster,
-    script: &[Event],
-) -> Result<(Vec<Mark>, Vec<Vec<Record>>), SimFault>
-    ensures stands { (size : Size) (liars fused : ℕ → Bool) →
-        ClusterStandsFor (unplayed size liars fused) cluster.old →
-        IfOk result (λ done. ClusterStandsFor
-        (played size liars fused script.now done.0.items done.1.items) cluster.new) }
-    ensures memory { (size : Size) (liars fused : ℕ → Bool) →
-        ClusterStandsFor (unplayed size liars fused) cluster.old →
-        IfErr result (λ fault. fault ≡ faults.Memory) }
-{
-    let mut marks = Vec::with_capacity(alloc, script.len())?;
-    let mut saved = Vec::with_capacity(alloc, script.len())?;
-    for event in script {
-        marks.push(cluster.play(alloc, event)?)?;
-        let records = Vec::from_slice(alloc, cluster.saved())?;
-        saved.push(records)?;
-    }
-    Ok((marks, saved))
 }
 
 /// Carries one event out: its mark, and where it wasn't skipped its member, and how many records
@@ -421,6 +274,153 @@ fn behind(records: &[Record], before: usize) -> &[Record]
     } else {
         &[]
     }
+}
+
+/// Runs a script against a whole cluster, the one of number 0. The script, what was marked and what
+/// was decided are a run of the crate `world`; so its promises hold of them (the properties have
+/// the names of Cachin, Guerraoui and Rodrigues, chapter 5).
+///
+/// The liars are numbers of members, upwards. Each member has its disk, by number; a journal is
+/// created on the disks of correct members alone, on all of them before the first is opened. On an
+/// error nothing is left of the cluster.
+///
+/// - `bad_liars`: `BadLiars` exactly where the liars' numbers don't rise, one is not below n, or
+///   they are more than t.
+/// - `bad_disks`: `BadDisks` exactly where the liars are right, and there are not n disks or one is
+///   not empty.
+/// - `device`: `Device` only where a fuse is in the disk of a correct member; it comes before the
+///   first event.
+/// - `run`: the events with their marks are steps of the world from its start, event by event; each
+///   mark is the one that the event has there, and the verdicts are all decisions that correct
+///   members have saved in the end, by member and then by question. What an event saved is all that
+///   its member's journal has there behind what it had before, in order; an event whose plan is to
+///   skip it saved nothing.
+/// - `few_lie`: at most t lie in it, so what the theorem says of settled worlds can be asked of its
+///   last world too.
+/// - `agree`: two verdicts of one question have one bit.
+/// - `unanimous`: where all proposals of a question that weren't skipped are of one bit, so is each
+///   verdict of it.
+/// - `never_full`: `Full` never comes, whatever the size and the script: all that a correct member
+///   may ever save, at most one statement of each kind at each place and one decision of each
+///   question, has room in its journal.
+///
+/// `Memory` comes where there is no memory.
+pub fn run(
+    alloc: Global,
+    size: Size,
+    liars: &[u8],
+    disks: Vec<MemDisk>,
+    script: &[Event],
+) -> Result<Outcome, SimFault>
+    ensures bad_liars { IsErrOf result faults.BadLiars ↔ (AreLiars size liars.now → ⊥) }
+    ensures bad_disks { IsErrOf result faults.BadDisks
+        ↔ (AreLiars size liars.now × (AreDisks size disks.items → ⊥)) }
+    ensures device { IsErrOf result faults.Device → HasFuse liars.now disks.items }
+    ensures run { IfOk result
+        (λ outcome. IsSimulation size (among liars.now)
+        (fused_in disks.items) script.now outcome.marks.items outcome.saved.items
+        outcome.verdicts.items) }
+    ensures few_lie { IfOk result (λ _. count_below size.n (among liars.now) ≤ size.t) }
+    ensures agree { IfOk result (λ outcome. HaveOneBit outcome.verdicts.items) }
+    ensures unanimous { IfOk result
+        (λ outcome. AreUnanimous script.now outcome.marks.items outcome.verdicts.items) }
+    ensures never_full { result ≡ Err faults.Full → ⊥ }
+{
+    let mut cluster = Cluster::open(alloc, size, liars, disks)?;
+    let (marks, saved) = follow(alloc, &mut cluster, script)?;
+    let verdicts = cluster.verdicts(alloc)?;
+    Ok(Outcome {
+        marks,
+        verdicts,
+        saved,
+    })
+}
+
+/// Plays all events: of each its mark, and what it saved.
+fn follow(
+    alloc: Global,
+    cluster: &mut Cluster,
+    script: &[Event],
+) -> Result<(Vec<Mark>, Vec<Vec<Record>>), SimFault>
+    ensures stands { (size : Size) (liars fused : ℕ → Bool) →
+        ClusterStandsFor (unplayed size liars fused) cluster.old →
+        IfOk result (λ done. ClusterStandsFor
+        (played size liars fused script.now done.0.items done.1.items) cluster.new) }
+    ensures memory { (size : Size) (liars fused : ℕ → Bool) →
+        ClusterStandsFor (unplayed size liars fused) cluster.old →
+        IfErr result (λ fault. fault ≡ faults.Memory) }
+{
+    let mut marks = Vec::with_capacity(alloc, script.len())?;
+    let mut saved = Vec::with_capacity(alloc, script.len())?;
+    for event in script {
+        marks.push(cluster.play(alloc, event)?)?;
+        let records = Vec::from_slice(alloc, cluster.saved())?;
+        saved.push(records)?;
+    }
+    Ok((marks, saved))
+}
+
+/// The posts of all members, the journals created and then opened.
+fn opened(
+    alloc: Global,
+    size: Size,
+    liars: &[u8],
+    disks: Vec<MemDisk>,
+) -> Result<Vec<Post>, SimFault>
+    requires count { length disks.items ≡ size.n }
+    ensures ready { IfOk result (λ posts. AreReady size posts.items) }
+    ensures cluster { IfOk result (λ posts.
+        IsCluster size (among liars.now) (opening (fused_in disks.items)) posts.items) }
+    ensures device { IsErrOf result faults.Device → HasFuse liars.now disks.items }
+    ensures only { IfErr result IsOfOpening }
+{
+    let mut posts = posts(alloc, size, liars, disks)?;
+    begin(alloc, posts.as_mut_slice())?;
+    Ok(posts)
+}
+
+/// Opens all journals, upwards.
+fn begin(alloc: Global, posts: &mut [Post]) -> Result<(), SimFault>
+    requires ready { (p : ℕ) (d : Post) → p < length posts.old → IsReady (get_or posts.old p d) }
+    ensures count { length posts.new ≡ length posts.old }
+    ensures opened { OnOk result ((p : ℕ) (d : Post) → p < length posts.old →
+        OpensPost (get_or posts.old p d) (get_or posts.new p d)) }
+    ensures only { IfErr result IsOfOpening }
+    ensures device { IsErrOf result faults.Device → (p : ℕ) × (p < length posts.old) × ((d : Post) →
+        (is_liar (get_or posts.old p d).presence ≡ false) × ((get_or posts.old p d).fused ≡ true)) }
+{
+    for post in posts.iter_mut() {
+        post.begin(alloc)?;
+    }
+    Ok(())
+}
+
+/// The posts of all members, the journals created and not yet opened.
+fn posts(
+    alloc: Global,
+    size: Size,
+    liars: &[u8],
+    disks: Vec<MemDisk>,
+) -> Result<Vec<Post>, SimFault>
+    requires count { length disks.items ≡ size.n }
+    ensures count { IfOk result (λ posts. length posts.items ≡ length disks.items) }
+    ensures each { IfOk result
+        (λ posts. (p : ℕ) (d : Post) → p < length posts.items → IsReady (get_or posts.items p d)
+        × IsCreated (mine size p) (among liars.now p) (fused_in disks.items p)
+        (get_or posts.items p d)) }
+    ensures device { IsErrOf result faults.Device → HasFuse liars.now disks.items }
+    ensures only { IfErr result IsOfOpening }
+{
+    let mut posts = Vec::with_capacity(alloc, disks.len())?;
+    let mut me = 0;
+    for disk in disks {
+        let Some(header) = Header::new(0, size, me) else {
+            return Err(SimFault::BadDisks);
+        };
+        posts.push(Post::new(alloc, header, liars.contains(&me), disk)?)?;
+        me += 1;
+    }
+    Ok(posts)
 }
 
 /// The decisions that correct members have saved, by member and then by question.

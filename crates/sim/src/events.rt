@@ -84,43 +84,6 @@ pub enum Event {
     },
 }
 
-/// The statement of a sender that is delivered, of all that were ever in its outbox.
-#[derive(Clone, Copy, Debug, PartialEq, Eq)]
-pub enum Which {
-    /// The one at the link's place, which then goes one further.
-    Next,
-    /// The one of this number, counted from 0. The link's place stays.
-    At(u64),
-}
-
-/// The outcome of an event.
-#[derive(Clone, Copy, Debug, PartialEq, Eq)]
-pub enum Mark {
-    /// The event happened.
-    Done,
-    /// A member's disk failed in it, by its fuse: the member is stopped, or still down where it was
-    /// to be opened. Of a liar's bytes the rest was dropped.
-    Failed,
-    /// The event couldn't happen, for this reason, and changed nothing.
-    Skipped(Reason),
-}
-
-/// Why an event was skipped: the first of these that holds.
-#[derive(Clone, Copy, Debug, PartialEq, Eq)]
-pub enum Reason {
-    /// There is no such member, or no such question.
-    NoSuch,
-    /// A liar stands where a correct member is wanted, or the reverse.
-    WrongSide,
-    /// The member that is to act is down or stopped.
-    NotUp,
-    /// The member that is to be opened runs.
-    Running,
-    /// There is no statement at that place of the outbox, a group is to have none, or the link is
-    /// broken.
-    Nothing,
-}
-
 impl fmt::Display for Event {
     ghost use Rattle.std.specs.Prelude.{Some};
     ghost use Rattle.sim.specs.Texts.{event_text};
@@ -168,6 +131,57 @@ impl fmt::Display for Event {
     }
 }
 
+/// The statement of a sender that is delivered, of all that were ever in its outbox.
+#[derive(Clone, Copy, Debug, PartialEq, Eq)]
+pub enum Which {
+    /// The one at the link's place, which then goes one further.
+    Next,
+    /// The one of this number, counted from 0. The link's place stays.
+    At(u64),
+}
+
+impl fmt::Display for Which {
+    ghost use Rattle.std.specs.Prelude.{Some};
+    ghost use Rattle.sim.specs.Texts.{which_text};
+
+    ghost output = { λ which. Some (which_text which) };
+
+    fn fmt<W: fmt::Write>(&self, f: &mut fmt::Formatter<W>) -> fmt::Result {
+        match self {
+            Which::Next => write!(f, "next"),
+            Which::At(number) => write!(f, "{number}"),
+        }
+    }
+}
+
+/// The outcome of an event.
+#[derive(Clone, Copy, Debug, PartialEq, Eq)]
+pub enum Mark {
+    /// The event happened.
+    Done,
+    /// A member's disk failed in it, by its fuse: the member is stopped, or still down where it was
+    /// to be opened. Of a liar's bytes the rest was dropped.
+    Failed,
+    /// The event couldn't happen, for this reason, and changed nothing.
+    Skipped(Reason),
+}
+
+/// Why an event was skipped: the first of these that holds.
+#[derive(Clone, Copy, Debug, PartialEq, Eq)]
+pub enum Reason {
+    /// There is no such member, or no such question.
+    NoSuch,
+    /// A liar stands where a correct member is wanted, or the reverse.
+    WrongSide,
+    /// The member that is to act is down or stopped.
+    NotUp,
+    /// The member that is to be opened runs.
+    Running,
+    /// There is no statement at that place of the outbox, a group is to have none, or the link is
+    /// broken.
+    Nothing,
+}
+
 /// The file that a crash leaves, as a script says it.
 #[derive(Clone, Copy)]
 struct Left(Pick);
@@ -187,20 +201,6 @@ impl fmt::Display for Left {
                 let digits = Digits(bytes.as_slice());
                 write!(f, "fill {digits}")
             }
-        }
-    }
-}
-
-impl fmt::Display for Which {
-    ghost use Rattle.std.specs.Prelude.{Some};
-    ghost use Rattle.sim.specs.Texts.{which_text};
-
-    ghost output = { λ which. Some (which_text which) };
-
-    fn fmt<W: fmt::Write>(&self, f: &mut fmt::Formatter<W>) -> fmt::Result {
-        match self {
-            Which::Next => write!(f, "next"),
-            Which::At(number) => write!(f, "{number}"),
         }
     }
 }

@@ -152,6 +152,35 @@ impl Link {
         Ok(statement_alone(&self.messages))
     }
 
+    /// Carries statements as frames of version 2, and gives what comes out at the other end, each
+    /// with its sender and a toss.
+    pub(crate) fn carry_all(
+        &mut self,
+        alloc: Global,
+        from: u8,
+        statements: &[Statement],
+        toss: Toss,
+    ) -> Result<Vec<(u8, Statement, Toss)>, Memory>
+        ensures arrive { IsSize self.old.size →
+            AllByRecursion (IsWellFormed self.old.size) statements.now → self.old.end ≡ Rest [] →
+            IfOk result (λ arrived. arrived.items ≡ map (λ s. (from, s, toss)) statements.now) }
+        ensures end { IsSize self.old.size →
+            AllByRecursion (IsWellFormed self.old.size) statements.now → self.old.end ≡ Rest [] →
+            IfOk result (λ _. self.new.end ≡ Rest []) }
+        ensures few { IfOk result (λ arrived. length arrived.items ≤ length statements.now) }
+        ensures place { self.new.place ≡ self.old.place }
+        ensures size { self.new.size ≡ self.old.size }
+    {
+        let mut all = Vec::new(alloc);
+        let mut rest = statements;
+        while !rest.is_empty() {
+            let (part, behind) = rest.split_at(rest.len().min(MOST_STATEMENTS));
+            self.carry_part(alloc, from, part, toss, &mut all)?;
+            rest = behind;
+        }
+        Ok(all)
+    }
+
     /// Carries these statements as one frame, and adds what comes out at the other end, each with
     /// its sender and a toss.
     fn carry_part(
@@ -185,75 +214,6 @@ impl Link {
         )?;
         Ok(())
     }
-
-    /// Carries statements as frames of version 2, and gives what comes out at the other end, each
-    /// with its sender and a toss.
-    pub(crate) fn carry_all(
-        &mut self,
-        alloc: Global,
-        from: u8,
-        statements: &[Statement],
-        toss: Toss,
-    ) -> Result<Vec<(u8, Statement, Toss)>, Memory>
-        ensures arrive { IsSize self.old.size →
-            AllByRecursion (IsWellFormed self.old.size) statements.now → self.old.end ≡ Rest [] →
-            IfOk result (λ arrived. arrived.items ≡ map (λ s. (from, s, toss)) statements.now) }
-        ensures end { IsSize self.old.size →
-            AllByRecursion (IsWellFormed self.old.size) statements.now → self.old.end ≡ Rest [] →
-            IfOk result (λ _. self.new.end ≡ Rest []) }
-        ensures few { IfOk result (λ arrived. length arrived.items ≤ length statements.now) }
-        ensures place { self.new.place ≡ self.old.place }
-        ensures size { self.new.size ≡ self.old.size }
-    {
-        let mut all = Vec::new(alloc);
-        let mut rest = statements;
-        while !rest.is_empty() {
-            let (part, behind) = rest.split_at(rest.len().min(MOST_STATEMENTS));
-            self.carry_part(alloc, from, part, toss, &mut all)?;
-            rest = behind;
-        }
-        Ok(all)
-    }
-}
-
-/// The message of these statements: one alone goes as a statement.
-fn message_of(alloc: Global, part: &[Statement]) -> Result<Message, Memory>
-    requires some { 1 ≤ length part.now }
-    requires most { length part.now ≤ 99 }
-    ensures { IfOk result (λ message. message ≡ message_of part.now) }
-{
-    if part.len() == 1 {
-        return Ok(Message::Statement(part[0]));
-    }
-    let items = Vec::from_slice(alloc, part)?;
-    match Many::new(items) {
-        Ok(many) => Ok(Message::Statements(many)),
-        Err(_) => unreachable!(),
-    }
-}
-
-/// The first of the statements, at most so many.
-fn at_most(count: usize, statements: &[Statement]) -> &[Statement]
-    ensures all { length statements.now ≤ count → result.now ≡ statements.now }
-    ensures few { length result.now ≤ count }
-{
-    &statements[..statements.len().min(count)]
-}
-
-/// Adds the statements, each with its sender and a toss.
-fn add_tossed(
-    all: &mut Vec<(u8, Statement, Toss)>,
-    from: u8,
-    statements: &[Statement],
-    toss: Toss,
-) -> Result<(), Memory>
-    ensures { OnOk result
-        (all.new.items ≡ all.old.items ++ map (λ s. (from, s, toss)) statements.now) }
-{
-    for statement in statements {
-        all.push((from, *statement, toss))?;
-    }
-    Ok(())
 }
 
 /// Reads the next bytes: the messages are then those that they complete. Whether a byte came that
@@ -270,28 +230,15 @@ fn read(feeder: &mut Feeder, bytes: &[u8], messages: &mut Vec<Message>) -> Resul
     Ok(matches!(fed, Fed::Broken(_)))
 }
 
-/// The statement, where the messages are one alone.
-fn statement_alone(messages: &[Message]) -> Option<Statement>
-    ensures { (statement : Statement) → messages.now ≡ variants.Statement statement ∷ [] →
-        result ≡ Some statement }
+/// The statements among the messages, in order.
+fn statements_among(alloc: Global, messages: &[Message]) -> Result<Vec<Statement>, Memory>
+    ensures { IfOk result (λ statements. statements.items ≡ statements_in messages.now) }
 {
-    match messages {
-        [Message::Statement(statement)] => Some(*statement),
-        _ => None,
+    let mut statements = Vec::new(alloc);
+    for message in messages {
+        add_statements(message, &mut statements)?;
     }
-}
-
-/// The statements of the message, where it is one alone.
-fn statements_alone(messages: &[Message]) -> &[Statement]
-    ensures one { (s : Statement) → messages.now ≡ variants.Statement s ∷ [] → result.now ≡ s ∷ [] }
-    ensures several { (many : List Statement) → messages.now ≡ variants.Statements many ∷ [] →
-        result.now ≡ many }
-{
-    match messages {
-        [Message::Statement(statement)] => from_ref(statement),
-        [Message::Statements(many)] => many.as_slice(),
-        _ => &[],
-    }
+    Ok(statements)
 }
 
 /// Adds the statements of the message, in order.
@@ -312,13 +259,66 @@ fn add_statements(message: &Message, statements: &mut Vec<Statement>) -> Result<
     }
 }
 
-/// The statements among the messages, in order.
-fn statements_among(alloc: Global, messages: &[Message]) -> Result<Vec<Statement>, Memory>
-    ensures { IfOk result (λ statements. statements.items ≡ statements_in messages.now) }
+/// The statement, where the messages are one alone.
+fn statement_alone(messages: &[Message]) -> Option<Statement>
+    ensures { (statement : Statement) → messages.now ≡ variants.Statement statement ∷ [] →
+        result ≡ Some statement }
 {
-    let mut statements = Vec::new(alloc);
-    for message in messages {
-        add_statements(message, &mut statements)?;
+    match messages {
+        [Message::Statement(statement)] => Some(*statement),
+        _ => None,
     }
-    Ok(statements)
+}
+
+/// The message of these statements: one alone goes as a statement.
+fn message_of(alloc: Global, part: &[Statement]) -> Result<Message, Memory>
+    requires some { 1 ≤ length part.now }
+    requires most { length part.now ≤ 99 }
+    ensures { IfOk result (λ message. message ≡ message_of part.now) }
+{
+    if part.len() == 1 {
+        return Ok(Message::Statement(part[0]));
+    }
+    let items = Vec::from_slice(alloc, part)?;
+    match Many::new(items) {
+        Ok(many) => Ok(Message::Statements(many)),
+        Err(_) => unreachable!(),
+    }
+}
+
+/// Adds the statements, each with its sender and a toss.
+fn add_tossed(
+    all: &mut Vec<(u8, Statement, Toss)>,
+    from: u8,
+    statements: &[Statement],
+    toss: Toss,
+) -> Result<(), Memory>
+    ensures { OnOk result
+        (all.new.items ≡ all.old.items ++ map (λ s. (from, s, toss)) statements.now) }
+{
+    for statement in statements {
+        all.push((from, *statement, toss))?;
+    }
+    Ok(())
+}
+
+/// The first of the statements, at most so many.
+fn at_most(count: usize, statements: &[Statement]) -> &[Statement]
+    ensures all { length statements.now ≤ count → result.now ≡ statements.now }
+    ensures few { length result.now ≤ count }
+{
+    &statements[..statements.len().min(count)]
+}
+
+/// The statements of the message, where it is one alone.
+fn statements_alone(messages: &[Message]) -> &[Statement]
+    ensures one { (s : Statement) → messages.now ≡ variants.Statement s ∷ [] → result.now ≡ s ∷ [] }
+    ensures several { (many : List Statement) → messages.now ≡ variants.Statements many ∷ [] →
+        result.now ≡ many }
+{
+    match messages {
+        [Message::Statement(statement)] => from_ref(statement),
+        [Message::Statements(many)] => many.as_slice(),
+        _ => &[],
+    }
 }

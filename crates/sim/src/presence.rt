@@ -50,17 +50,6 @@ impl Presence {
         }
     }
 
-    /// Returns what its member has saved.
-    pub(crate) fn records(&self) -> &[Record]
-        ensures { result.now ≡ saved_in self.now }
-    {
-        match self {
-            Presence::Here(member) => member.records(),
-            Presence::Down(_, records) => records.as_slice(),
-            Presence::Liar => &[],
-        }
-    }
-
     /// The statement of that number, of all that it has saved.
     pub(crate) fn statement(&self, number: u64) -> Option<Statement>
         requires sound { IsOneSound self.now }
@@ -78,6 +67,17 @@ impl Presence {
                 }
             }
             _ => statement_at(self.records(), number),
+        }
+    }
+
+    /// Returns what its member has saved.
+    pub(crate) fn records(&self) -> &[Record]
+        ensures { result.now ≡ saved_in self.now }
+    {
+        match self {
+            Presence::Here(member) => member.records(),
+            Presence::Down(_, records) => records.as_slice(),
+            Presence::Liar => &[],
         }
     }
 
@@ -105,36 +105,6 @@ impl Presence {
             return Ok(Mark::Skipped(Reason::NotUp));
         };
         let answer = member.propose(question, bit, toss);
-        mark_of(answer, fused)
-    }
-
-    /// Lets it hear a statement.
-    #[inline(always)]
-    pub(crate) fn hear(
-        &mut self,
-        fused: bool,
-        from: u8,
-        statement: &Statement,
-        toss: Toss,
-    ) -> Result<Mark, SimFault>
-        requires sound { IsOneSound self.old }
-        ensures sound { IsOneSound self.new }
-        ensures only { IfErr result IsOfRun }
-        ensures side { is_liar self.new ≡ is_liar self.old }
-        ensures moved { (size : Size) (liars : ℕ → Bool) (p : ℕ) (w : World) →
-            IsCorrect size liars p → w.doubt p ≡ None → IsPresenceAt (mine size p) w self.old →
-            has_sent w.sent from statement.now ≡ true →
-            IfOk result (λ mark. IsMove size liars p w
-            (Answers size p w fused toss.0 (Hearing from statement.now) mark) self.new) }
-        ensures memory { (size : Size) (liars : ℕ → Bool) (p : ℕ) (w : World) →
-            IsCorrect size liars p → w.doubt p ≡ None → IsPresenceAt (mine size p) w self.old →
-            has_sent w.sent from statement.now ≡ true → MayCome size liars w →
-            IfErr result (λ fault. fault ≡ faults.Memory) }
-    {
-        let Presence::Here(member) = self else {
-            return Ok(Mark::Skipped(Reason::NotUp));
-        };
-        let answer = member.hear_saved(from, statement, toss);
         mark_of(answer, fused)
     }
 
@@ -196,6 +166,36 @@ impl Presence {
             }
         }
         Ok(Mark::Done)
+    }
+
+    /// Lets it hear a statement.
+    #[inline(always)]
+    pub(crate) fn hear(
+        &mut self,
+        fused: bool,
+        from: u8,
+        statement: &Statement,
+        toss: Toss,
+    ) -> Result<Mark, SimFault>
+        requires sound { IsOneSound self.old }
+        ensures sound { IsOneSound self.new }
+        ensures only { IfErr result IsOfRun }
+        ensures side { is_liar self.new ≡ is_liar self.old }
+        ensures moved { (size : Size) (liars : ℕ → Bool) (p : ℕ) (w : World) →
+            IsCorrect size liars p → w.doubt p ≡ None → IsPresenceAt (mine size p) w self.old →
+            has_sent w.sent from statement.now ≡ true →
+            IfOk result (λ mark. IsMove size liars p w
+            (Answers size p w fused toss.0 (Hearing from statement.now) mark) self.new) }
+        ensures memory { (size : Size) (liars : ℕ → Bool) (p : ℕ) (w : World) →
+            IsCorrect size liars p → w.doubt p ≡ None → IsPresenceAt (mine size p) w self.old →
+            has_sent w.sent from statement.now ≡ true → MayCome size liars w →
+            IfErr result (λ fault. fault ≡ faults.Memory) }
+    {
+        let Presence::Here(member) = self else {
+            return Ok(Mark::Skipped(Reason::NotUp));
+        };
+        let answer = member.hear_saved(from, statement, toss);
+        mark_of(answer, fused)
     }
 
     /// Sets the fuse of its disk.

@@ -44,6 +44,34 @@ pub(crate) struct Way {
     pub(crate) toss: Toss,
 }
 
+/// The statements that a task brings, which are those of a group.
+#[inline(always)]
+pub(crate) fn brought(
+    alloc: Global,
+    size: Size,
+    posts: &[Post],
+    to: u8,
+    task: &Instruction,
+) -> Result<Delivery, SimFault>
+    requires ready { AreReady size posts.now }
+    requires within { (to < size.n) × HasSender size.n task.now }
+    ensures brings { (liars : ℕ → Bool) (c : Scene) → IsCluster size liars c posts.now →
+        CanBeDone size liars c to task.now → IfOk result (IsGroupFor c to task.now) }
+    ensures few { IfOk result (λ group. length group.statements.items ≤ 256) }
+    ensures only { IfErr result (λ fault. fault ≡ faults.Memory) }
+{
+    match *task {
+        Instruction::DeliverAll(from, count, _) => {
+            let place = posts[usize::from(to)].place(from);
+            posts[usize::from(from)].group(alloc, place, count)
+        }
+        _ => Ok(Delivery {
+            statements: Vec::new(alloc),
+            place: 0,
+        }),
+    }
+}
+
 /// The member that an event is for and its task, or the first reason to skip the event.
 #[inline(always)]
 pub(crate) fn plan(size: Size, posts: &[Post], event: &Event) -> Result<(u8, Instruction), Reason>
@@ -90,14 +118,6 @@ pub(crate) fn plan(size: Size, posts: &[Post], event: &Event) -> Result<(u8, Ins
     }
 }
 
-/// The way of a statement from that member to that one.
-#[inline(always)]
-pub(crate) fn way_of(from: u8, to: u8, toss: Toss) -> Way
-    ensures { result ≡ record { from = from; to = to; toss = toss } }
-{
-    Way { from, to, toss }
-}
-
 /// A proposal of a bit on a question to a correct member that runs, with the toss there.
 fn proposal(
     size: Size,
@@ -116,40 +136,6 @@ fn proposal(
     }
     let task = Instruction::Propose(question, bit, toss);
     for_running(size, posts, member, task)
-}
-
-/// The beginning anew of the link from that member to that one.
-fn reset(size: Size, from: u8, to: u8) -> Result<(u8, Instruction), Reason>
-    ensures plan { (liars : ℕ → Bool) (c : Scene) →
-        result ≡ plan_of size liars c (events.Reset from to) }
-    ensures within { IfOk result (λ to. (to.0 < size.n) × HasSender size.n to.1) }
-{
-    if from >= size.n() || to >= size.n() {
-        return Err(Reason::NoSuch);
-    }
-    Ok((to, Instruction::Reset(from)))
-}
-
-/// A task for a correct member.
-fn for_correct(
-    size: Size,
-    posts: &[Post],
-    member: u8,
-    task: Instruction,
-) -> Result<(u8, Instruction), Reason>
-    requires sender { HasSender size.n task }
-    requires ready { AreReady size posts.now }
-    ensures plan { (liars : ℕ → Bool) (c : Scene) → IsCluster size liars c posts.now →
-        result ≡ for_correct size liars member (Ok (member, task)) }
-    ensures within { IfOk result (λ to. (to.0 < size.n) × HasSender size.n to.1) }
-{
-    if member >= size.n() {
-        return Err(Reason::NoSuch);
-    }
-    if posts[usize::from(member)].is_liar() {
-        return Err(Reason::WrongSide);
-    }
-    Ok((member, task))
 }
 
 /// A task for a correct member that runs.
@@ -176,47 +162,6 @@ fn for_running(
         return Err(Reason::NotUp);
     }
     Ok((member, task))
-}
-
-/// The place of the link from a correct member to one that is correct and runs, or the first reason
-/// why nothing comes over it.
-#[inline(always)]
-fn link_place(size: Size, posts: &[Post], from: u8, to: u8) -> Result<u64, Reason>
-    requires ready { AreReady size posts.now }
-    ensures place { (liars : ℕ → Bool) (c : Scene) → IsCluster size liars c posts.now →
-        result ≡ for_link size liars c.world from to (Ok (c.place from to)) }
-    ensures within { IfOk result (λ _. (from < size.n) × (to < size.n)) }
-{
-    if from >= size.n() || to >= size.n() {
-        return Err(Reason::NoSuch);
-    }
-    let receiver = &posts[usize::from(to)];
-    if posts[usize::from(from)].is_liar() || receiver.is_liar() {
-        return Err(Reason::WrongSide);
-    }
-    if !receiver.is_up() {
-        return Err(Reason::NotUp);
-    }
-    Ok(receiver.place(from))
-}
-
-/// A statement of a correct member for a correct member.
-#[inline(always)]
-pub(crate) fn delivery(
-    size: Size,
-    posts: &[Post],
-    way: Way,
-    which: Which,
-) -> Result<(u8, Instruction), Reason>
-    requires ready { AreReady size posts.now }
-    ensures plan { (liars : ℕ → Bool) (c : Scene) → IsCluster size liars c posts.now →
-        result ≡ plan_of size liars c (events.Deliver way.from way.to which way.toss) }
-    ensures within { IfOk result (λ to. (to.0 < size.n) × HasSender size.n to.1) }
-{
-    match link_place(size, posts, way.from, way.to) {
-        Ok(place) => outgoing(&posts[usize::from(way.from)], place, way, which),
-        Err(reason) => Err(reason),
-    }
 }
 
 /// A group of a correct member's statements for a correct member.
@@ -255,6 +200,127 @@ fn outgoing_group(
     }
 }
 
+/// A liar's bytes for a correct member.
+fn lie(
+    size: Size,
+    posts: &[Post],
+    liar: u8,
+    to: u8,
+    toss: Toss,
+) -> Result<(u8, Instruction), Reason>
+    requires ready { AreReady size posts.now }
+    ensures plan { (liars : ℕ → Bool) (c : Scene) → IsCluster size liars c posts.now →
+        result ≡ lie_plan size liars c liar to toss }
+    ensures within { IfOk result (λ to. (to.0 < size.n) × HasSender size.n to.1) }
+{
+    if liar >= size.n() || to >= size.n() {
+        return Err(Reason::NoSuch);
+    }
+    let receiver = &posts[usize::from(to)];
+    if !posts[usize::from(liar)].is_liar() || receiver.is_liar() {
+        return Err(Reason::WrongSide);
+    }
+    if !receiver.is_up() {
+        return Err(Reason::NotUp);
+    }
+    Ok((to, Instruction::Lie(liar, toss)))
+}
+
+/// A task for a correct member.
+fn for_correct(
+    size: Size,
+    posts: &[Post],
+    member: u8,
+    task: Instruction,
+) -> Result<(u8, Instruction), Reason>
+    requires sender { HasSender size.n task }
+    requires ready { AreReady size posts.now }
+    ensures plan { (liars : ℕ → Bool) (c : Scene) → IsCluster size liars c posts.now →
+        result ≡ for_correct size liars member (Ok (member, task)) }
+    ensures within { IfOk result (λ to. (to.0 < size.n) × HasSender size.n to.1) }
+{
+    if member >= size.n() {
+        return Err(Reason::NoSuch);
+    }
+    if posts[usize::from(member)].is_liar() {
+        return Err(Reason::WrongSide);
+    }
+    Ok((member, task))
+}
+
+/// An opening of a correct member that doesn't run.
+fn restart(size: Size, posts: &[Post], member: u8) -> Result<(u8, Instruction), Reason>
+    requires ready { AreReady size posts.now }
+    ensures plan { (liars : ℕ → Bool) (c : Scene) → IsCluster size liars c posts.now →
+        result ≡ plan_of size liars c (events.Restart member) }
+    ensures within { IfOk result (λ to. (to.0 < size.n) × HasSender size.n to.1) }
+{
+    if member >= size.n() {
+        return Err(Reason::NoSuch);
+    }
+    let post = &posts[usize::from(member)];
+    if post.is_liar() {
+        return Err(Reason::WrongSide);
+    }
+    if post.is_up() {
+        return Err(Reason::Running);
+    }
+    Ok((member, Instruction::Restart))
+}
+
+/// The beginning anew of the link from that member to that one.
+fn reset(size: Size, from: u8, to: u8) -> Result<(u8, Instruction), Reason>
+    ensures plan { (liars : ℕ → Bool) (c : Scene) →
+        result ≡ plan_of size liars c (events.Reset from to) }
+    ensures within { IfOk result (λ to. (to.0 < size.n) × HasSender size.n to.1) }
+{
+    if from >= size.n() || to >= size.n() {
+        return Err(Reason::NoSuch);
+    }
+    Ok((to, Instruction::Reset(from)))
+}
+
+/// A statement of a correct member for a correct member.
+#[inline(always)]
+pub(crate) fn delivery(
+    size: Size,
+    posts: &[Post],
+    way: Way,
+    which: Which,
+) -> Result<(u8, Instruction), Reason>
+    requires ready { AreReady size posts.now }
+    ensures plan { (liars : ℕ → Bool) (c : Scene) → IsCluster size liars c posts.now →
+        result ≡ plan_of size liars c (events.Deliver way.from way.to which way.toss) }
+    ensures within { IfOk result (λ to. (to.0 < size.n) × HasSender size.n to.1) }
+{
+    match link_place(size, posts, way.from, way.to) {
+        Ok(place) => outgoing(&posts[usize::from(way.from)], place, way, which),
+        Err(reason) => Err(reason),
+    }
+}
+
+/// The place of the link from a correct member to one that is correct and runs, or the first reason
+/// why nothing comes over it.
+#[inline(always)]
+fn link_place(size: Size, posts: &[Post], from: u8, to: u8) -> Result<u64, Reason>
+    requires ready { AreReady size posts.now }
+    ensures place { (liars : ℕ → Bool) (c : Scene) → IsCluster size liars c posts.now →
+        result ≡ for_link size liars c.world from to (Ok (c.place from to)) }
+    ensures within { IfOk result (λ _. (from < size.n) × (to < size.n)) }
+{
+    if from >= size.n() || to >= size.n() {
+        return Err(Reason::NoSuch);
+    }
+    let receiver = &posts[usize::from(to)];
+    if posts[usize::from(from)].is_liar() || receiver.is_liar() {
+        return Err(Reason::WrongSide);
+    }
+    if !receiver.is_up() {
+        return Err(Reason::NotUp);
+    }
+    Ok(receiver.place(from))
+}
+
 /// One of a sender's statements, over a link that is at that place.
 #[inline(always)]
 fn outgoing(sender: &Post, place: u64, way: Way, which: Which) -> Result<(u8, Instruction), Reason>
@@ -282,78 +348,12 @@ fn outgoing(sender: &Post, place: u64, way: Way, which: Which) -> Result<(u8, In
     }
 }
 
-/// A liar's bytes for a correct member.
-fn lie(
-    size: Size,
-    posts: &[Post],
-    liar: u8,
-    to: u8,
-    toss: Toss,
-) -> Result<(u8, Instruction), Reason>
-    requires ready { AreReady size posts.now }
-    ensures plan { (liars : ℕ → Bool) (c : Scene) → IsCluster size liars c posts.now →
-        result ≡ lie_plan size liars c liar to toss }
-    ensures within { IfOk result (λ to. (to.0 < size.n) × HasSender size.n to.1) }
-{
-    if liar >= size.n() || to >= size.n() {
-        return Err(Reason::NoSuch);
-    }
-    let receiver = &posts[usize::from(to)];
-    if !posts[usize::from(liar)].is_liar() || receiver.is_liar() {
-        return Err(Reason::WrongSide);
-    }
-    if !receiver.is_up() {
-        return Err(Reason::NotUp);
-    }
-    Ok((to, Instruction::Lie(liar, toss)))
-}
-
-/// An opening of a correct member that doesn't run.
-fn restart(size: Size, posts: &[Post], member: u8) -> Result<(u8, Instruction), Reason>
-    requires ready { AreReady size posts.now }
-    ensures plan { (liars : ℕ → Bool) (c : Scene) → IsCluster size liars c posts.now →
-        result ≡ plan_of size liars c (events.Restart member) }
-    ensures within { IfOk result (λ to. (to.0 < size.n) × HasSender size.n to.1) }
-{
-    if member >= size.n() {
-        return Err(Reason::NoSuch);
-    }
-    let post = &posts[usize::from(member)];
-    if post.is_liar() {
-        return Err(Reason::WrongSide);
-    }
-    if post.is_up() {
-        return Err(Reason::Running);
-    }
-    Ok((member, Instruction::Restart))
-}
-
-/// The statements that a task brings, which are those of a group.
+/// The way of a statement from that member to that one.
 #[inline(always)]
-pub(crate) fn brought(
-    alloc: Global,
-    size: Size,
-    posts: &[Post],
-    to: u8,
-    task: &Instruction,
-) -> Result<Delivery, SimFault>
-    requires ready { AreReady size posts.now }
-    requires within { (to < size.n) × HasSender size.n task.now }
-    ensures brings { (liars : ℕ → Bool) (c : Scene) → IsCluster size liars c posts.now →
-        CanBeDone size liars c to task.now → IfOk result (IsGroupFor c to task.now) }
-    ensures few { IfOk result (λ group. length group.statements.items ≤ 256) }
-    ensures only { IfErr result (λ fault. fault ≡ faults.Memory) }
+pub(crate) fn way_of(from: u8, to: u8, toss: Toss) -> Way
+    ensures { result ≡ record { from = from; to = to; toss = toss } }
 {
-    match *task {
-        Instruction::DeliverAll(from, count, _) => {
-            let place = posts[usize::from(to)].place(from);
-            posts[usize::from(from)].group(alloc, place, count)
-        }
-        _ => Ok(Delivery {
-            statements: Vec::new(alloc),
-            place: 0,
-        }),
-    }
+    Way { from, to, toss }
 }
 
 /// The bytes that a liar's event brings.

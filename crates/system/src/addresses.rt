@@ -27,81 +27,6 @@ pub fn socket_address(address: &Address) -> SocketAddr
     SocketAddr::new(IpAddr::from(address.octets), address.port)
 }
 
-/// These addresses as sockets have them.
-pub(crate) fn socket_addresses(
-    alloc: Global,
-    addresses: &[Address],
-) -> Result<Vec<SocketAddr>, Memory>
-    ensures { IfOk result (λ sockets. AreSocketsOf addresses.now sockets.items) }
-{
-    let mut sockets = Vec::new(alloc);
-    for address in addresses {
-        sockets.push(socket_address(address))?;
-    }
-    Ok(sockets)
-}
-
-/// Returns the address at which a member dials itself that listens there.
-fn own_address(listen: &Address) -> Address
-    ensures { result ≡ own_address listen.now }
-{
-    if listen.octets == EVERYWHERE {
-        return Address {
-            octets: THIS_MACHINE,
-            port: listen.port,
-        };
-    }
-    *listen
-}
-
-/// These addresses, with another at that place.
-fn with_own(alloc: Global, peers: &[Address], me: u8, own: Address) -> Result<Vec<Address>, Memory>
-    ensures { IfOk result
-        (λ it. it.items ≡ (if nat_lt me (length peers.now) then slice_set peers.now me own else
-        peers.now)) }
-{
-    let mut all = Vec::new(alloc);
-    all.extend_from_slice(peers)?;
-    let me = usize::from(me);
-    if me >= all.len() {
-        return Ok(all);
-    }
-    all[me] = own;
-    Ok(all)
-}
-
-/// Returns the addresses at which the members are dialled: their entries of the peers; and for the
-/// own one the address of
-fn dialled(alloc: Global, settings: &Settings) -> Result<Vec<Address>, Memory>
-    ensures { IfOk result
-        (λ it. it.items ≡ dialled settings.now.peers.items settings.now.listen
-        settings.now.header.me) }
-{
-    match &settings.listen {
-        Some(listen) => {
-            let me = settings.header.me();
-            with_own(alloc, &settings.peers, me, own_address(listen))
-        }
-        None => {
-            let mut all = Vec::new(alloc);
-            all.extend_from_slice(&settings.peers)?;
-            Ok(all)
-        }
-    }
-}
-
-/// The address as sockets have it, if there is one.
-fn maybe_socket(address: &Option<Address>) -> Option<SocketAddr>
-    ensures none { address.now ≡ None → result ≡ None }
-    ensures some { (one : AddressOf) → address.now ≡ Some one →
-        IfSome result (λ socket. IsSocketOf one socket) }
-{
-    match address {
-        Some(address) => Some(socket_address(address)),
-        None => None,
-    }
-}
-
 /// Returns where the members of the settings are dialled and this one listens, how many clients are
 /// let in and may follow decisions, and from where links are taken: from the members' own hosts,
 /// unless any host may speak for any member. No clients of a Unix socket are let in.
@@ -141,4 +66,79 @@ pub(crate) fn addresses_of(
         patience: PATIENCE,
         chain: None,
     })
+}
+
+/// Returns the addresses at which the members are dialled: their entries of the peers; and for the
+/// own one the address of
+fn dialled(alloc: Global, settings: &Settings) -> Result<Vec<Address>, Memory>
+    ensures { IfOk result
+        (λ it. it.items ≡ dialled settings.now.peers.items settings.now.listen
+        settings.now.header.me) }
+{
+    match &settings.listen {
+        Some(listen) => {
+            let me = settings.header.me();
+            with_own(alloc, &settings.peers, me, own_address(listen))
+        }
+        None => {
+            let mut all = Vec::new(alloc);
+            all.extend_from_slice(&settings.peers)?;
+            Ok(all)
+        }
+    }
+}
+
+/// These addresses, with another at that place.
+fn with_own(alloc: Global, peers: &[Address], me: u8, own: Address) -> Result<Vec<Address>, Memory>
+    ensures { IfOk result
+        (λ it. it.items ≡ (if nat_lt me (length peers.now) then slice_set peers.now me own else
+        peers.now)) }
+{
+    let mut all = Vec::new(alloc);
+    all.extend_from_slice(peers)?;
+    let me = usize::from(me);
+    if me >= all.len() {
+        return Ok(all);
+    }
+    all[me] = own;
+    Ok(all)
+}
+
+/// Returns the address at which a member dials itself that listens there.
+fn own_address(listen: &Address) -> Address
+    ensures { result ≡ own_address listen.now }
+{
+    if listen.octets == EVERYWHERE {
+        return Address {
+            octets: THIS_MACHINE,
+            port: listen.port,
+        };
+    }
+    *listen
+}
+
+/// The address as sockets have it, if there is one.
+fn maybe_socket(address: &Option<Address>) -> Option<SocketAddr>
+    ensures none { address.now ≡ None → result ≡ None }
+    ensures some { (one : AddressOf) → address.now ≡ Some one →
+        IfSome result (λ socket. IsSocketOf one socket) }
+{
+    match address {
+        Some(address) => Some(socket_address(address)),
+        None => None,
+    }
+}
+
+/// These addresses as sockets have them.
+pub(crate) fn socket_addresses(
+    alloc: Global,
+    addresses: &[Address],
+) -> Result<Vec<SocketAddr>, Memory>
+    ensures { IfOk result (λ sockets. AreSocketsOf addresses.now sockets.items) }
+{
+    let mut sockets = Vec::new(alloc);
+    for address in addresses {
+        sockets.push(socket_address(address))?;
+    }
+    Ok(sockets)
 }

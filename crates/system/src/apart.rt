@@ -4,11 +4,6 @@ ghost use Rattle.std.specs.Prelude.{◌≡◌, IsTrue};
 
 use settings::{Address, Settings};
 
-/// Returns `true` if the address is that of every host.
-fn is_any(address: &Address) -> bool {
-    address.octets == [0, 0, 0, 0]
-}
-
 /// Returns `true` if one host can't listen at both addresses: they are the same, or have one port,
 /// and one of them is at 0.0.0.0.
 pub fn overlaps(one: &Address, other: &Address) -> bool
@@ -19,6 +14,11 @@ pub fn overlaps(one: &Address, other: &Address) -> bool
         return true;
     }
     one.port == other.port && (is_any(one) || is_any(other))
+}
+
+/// Returns `true` if the address is that of every host.
+fn is_any(address: &Address) -> bool {
+    address.octets == [0, 0, 0, 0]
 }
 
 /// The address at which the member of these settings listens to the others, if there is such a

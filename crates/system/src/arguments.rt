@@ -9,6 +9,19 @@ use std::alloc::Global;
 use std::env::FillError;
 use std::rt::Env;
 
+/// The words with which the program was started, its name first. [`Fault::Argument`]: the first
+/// that isn't UTF-8.
+pub fn own_words(env: &impl Env, alloc: Global) -> Result<Vec<String>, Fault> {
+    let mut words = Vec::new(alloc);
+    for place in 0..usize::MAX {
+        match argument(env, alloc, place)? {
+            Some(bytes) => words.push(text_at(place, bytes)?)?,
+            None => break,
+        }
+    }
+    Ok(words)
+}
+
 /// The bytes of the argument at the place, if there is one. The program's name has place 0.
 fn argument(env: &impl Env, alloc: Global, place: usize) -> Result<Option<Vec<u8>>, Fault> {
     let mut bytes = Vec::new(alloc);
@@ -37,26 +50,6 @@ fn text_at(place: usize, bytes: Vec<u8>) -> Result<String, Fault>
     }
 }
 
-/// The words with which the program was started, its name first. [`Fault::Argument`]: the first
-/// that isn't UTF-8.
-pub fn own_words(env: &impl Env, alloc: Global) -> Result<Vec<String>, Fault> {
-    let mut words = Vec::new(alloc);
-    for place in 0..usize::MAX {
-        match argument(env, alloc, place)? {
-            Some(bytes) => words.push(text_at(place, bytes)?)?,
-            None => break,
-        }
-    }
-    Ok(words)
-}
-
-/// Returns `true` if this value says so: it is `1`.
-fn is_one(value: &[u8]) -> bool
-    ensures { IsTrue result ↔ (value.now ≡ codes "1") }
-{
-    is(value, "1")
-}
-
 /// Returns `true` if the environment asks for the first line of a fault alone: `BRACHA_QUIET` is
 /// `1`.
 pub fn wants_quiet(env: &impl Env) -> bool {
@@ -65,4 +58,11 @@ pub fn wants_quiet(env: &impl Env) -> bool {
         Ok(length) => is_one(&value[..length]),
         Err(_) => false,
     }
+}
+
+/// Returns `true` if this value says so: it is `1`.
+fn is_one(value: &[u8]) -> bool
+    ensures { IsTrue result ↔ (value.now ≡ codes "1") }
+{
+    is(value, "1")
 }

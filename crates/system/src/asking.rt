@@ -16,26 +16,6 @@ use std::io::{self, BufReader};
 use std::thread;
 use std::time::Duration;
 
-/// The failure of a talk over a connection that was made.
-fn talk_failure(rt: &HostRuntime, address: &str, fault: TalkFault) -> Failure
-    ensures fault { result.fault ≡ ends.Talk fault }
-    ensures named { IsNamed address.now result }
-{
-    match fault {
-        TalkFault::NoAnswer => {
-            let words = "connected, but no reply came";
-            Failure::at(
-                rt.alloc(),
-                Fault::Talk(fault),
-                address,
-                Whereabouts::Whole,
-                &words,
-            )
-        }
-        _ => Failure::from(Fault::Talk(fault)),
-    }
-}
-
 /// The form of an address.
 const ADDRESS_WORDS: &str =
     "must be unix:PATH, or localhost or four numbers with points between them, a colon and a port from 1 to 65535: no host names, no IPv6";
@@ -54,82 +34,6 @@ fn place_at<'a>(rt: &HostRuntime, text: &'a str) -> Result<DeskPlace<'a>, Failur
             &ADDRESS_WORDS,
         )),
     }
-}
-
-/// A connection to the desk at the address, HOST:PORT or unix:PATH, within the time.
-fn desk_at(rt: &HostRuntime, text: &str, deadline: Deadline) -> Result<DeskSocket, Failure>
-    ensures named { IfErr result (IsNamed text.now) }
-{
-    let place = place_at(rt, text)?;
-    match connect(rt, &place, deadline) {
-        Ok(socket) => Ok(socket),
-        Err(error) => {
-            let fault = Fault::Talk(TalkFault::NoAnswer);
-            Err(Failure::at(rt.alloc(), fault, text, Whereabouts::Connect, &error))
-        }
-    }
-}
-
-/// The end of a client that begins now and waits so many milliseconds in all, where that is
-/// limited.
-fn deadline_of(rt: &HostRuntime, timeout: Option<u32>) -> Result<Deadline, Fault> {
-    match Deadline::new(rt, timeout) {
-        Ok(deadline) => Ok(deadline),
-        Err(_) => Err(Fault::Memory),
-    }
-}
-
-/// The reply of the desk at the address to the line, without its end.
-fn reply_at(
-    rt: &HostRuntime,
-    text: &str,
-    line: &str,
-    deadline: Deadline,
-) -> Result<Vec<u8>, Failure>
-    ensures named { IfErr result (IsNamed text.now) }
-{
-    let socket = &desk_at(rt, text, deadline)?;
-    let mut to = Talk::new(rt, socket, deadline);
-    let mut from = Talk::new(rt, socket, deadline);
-    match exchange(rt.alloc(), line, &mut to, &mut from) {
-        Ok(reply) => Ok(reply),
-        Err(fault) => Err(talk_failure(rt, text, fault)),
-    }
-}
-
-/// Prints a reply as it stands, or as an object of JSON.
-fn print_reply(rt: &HostRuntime, reply: Vec<u8>, json: bool) -> Result<u8, TalkFault> {
-    let mut output = io::writer(rt);
-    if json {
-        tell_object(rt.alloc(), &reply, &mut output)
-    } else {
-        tell(reply, &mut output)
-    }
-}
-
-/// Prints the reply of the desk at the address. The status is that of the reply.
-fn tell_reply(rt: &HostRuntime, text: &str, reply: Vec<u8>, json: bool) -> Result<u8, Failure>
-    ensures named { IfErr result (IsNamed text.now) }
-{
-    match print_reply(rt, reply, json) {
-        Ok(status) => Ok(status),
-        Err(fault) => Err(talk_failure(rt, text, fault)),
-    }
-}
-
-/// Sends the line to the desk at the address, and prints the reply.
-fn ask_desk(
-    rt: &HostRuntime,
-    text: &str,
-    line: &str,
-    json: bool,
-    timeout: Option<u32>,
-) -> Result<u8, Failure>
-    ensures named { IfErr result (IsNamed text.now) }
-{
-    let deadline = deadline_of(rt, timeout)?;
-    let reply = reply_at(rt, text, line, deadline)?;
-    tell_reply(rt, text, reply, json)
 }
 
 /// Asks the member whose desk is at the address for what it heard of a question, and prints its
@@ -190,24 +94,6 @@ pub fn ask_at(
     ask_desk(rt, address, line.as_str(), json, timeout)
 }
 
-/// Returns `true` if the failure is that no reply came.
-fn is_no_answer(failure: &Failure) -> bool {
-    matches!(failure.fault, Fault::Talk(TalkFault::NoAnswer))
-}
-
-/// Prints that a question is undecided once the time is over. The status is 1.
-fn tell_undecided(
-    rt: &HostRuntime,
-    address: &str,
-    reply: Vec<u8>,
-    json: bool,
-) -> Result<u8, Failure>
-    ensures named { IfErr result (IsNamed address.now) }
-{
-    let _printed = tell_reply(rt, address, reply, json)?;
-    Ok(1)
-}
-
 /// Asks the member whose desk is at the address for its decision, and waits there until there is
 /// one or another reply, or until there is no time left; and prints the last reply. A member that
 /// doesn't answer is asked again. The status is that of the reply, but 1 for `UNDECIDED`.
@@ -262,6 +148,24 @@ pub fn await_at(
     Ok(1)
 }
 
+/// Prints that a question is undecided once the time is over. The status is 1.
+fn tell_undecided(
+    rt: &HostRuntime,
+    address: &str,
+    reply: Vec<u8>,
+    json: bool,
+) -> Result<u8, Failure>
+    ensures named { IfErr result (IsNamed address.now) }
+{
+    let _printed = tell_reply(rt, address, reply, json)?;
+    Ok(1)
+}
+
+/// Returns `true` if the failure is that no reply came.
+fn is_no_answer(failure: &Failure) -> bool {
+    matches!(failure.fault, Fault::Talk(TalkFault::NoAnswer))
+}
+
 /// Asks the member whose desk is at the address whether it is up, and prints its reply. The status
 /// is that of the reply.
 pub fn status_at(
@@ -290,6 +194,21 @@ pub fn state_at(
     ask_desk(rt, address, line.as_str(), json, timeout)
 }
 
+/// Sends the line to the desk at the address, and prints the reply.
+fn ask_desk(
+    rt: &HostRuntime,
+    text: &str,
+    line: &str,
+    json: bool,
+    timeout: Option<u32>,
+) -> Result<u8, Failure>
+    ensures named { IfErr result (IsNamed text.now) }
+{
+    let deadline = deadline_of(rt, timeout)?;
+    let reply = reply_at(rt, text, line, deadline)?;
+    tell_reply(rt, text, reply, json)
+}
+
 /// Asks the member whose desk is at the address how many of its links come and go, and prints its
 /// reply. The status is that of the reply; where the member is to be ready, 0 only if as many links
 /// come in and go out as it needs to decide, and 1 else.
@@ -307,4 +226,85 @@ pub fn links_at(
     let status = ready_status(&reply);
     let told = tell_reply(rt, address, reply, json)?;
     if ready { Ok(status) } else { Ok(told) }
+}
+
+/// The end of a client that begins now and waits so many milliseconds in all, where that is
+/// limited.
+fn deadline_of(rt: &HostRuntime, timeout: Option<u32>) -> Result<Deadline, Fault> {
+    match Deadline::new(rt, timeout) {
+        Ok(deadline) => Ok(deadline),
+        Err(_) => Err(Fault::Memory),
+    }
+}
+
+/// The reply of the desk at the address to the line, without its end.
+fn reply_at(
+    rt: &HostRuntime,
+    text: &str,
+    line: &str,
+    deadline: Deadline,
+) -> Result<Vec<u8>, Failure>
+    ensures named { IfErr result (IsNamed text.now) }
+{
+    let socket = &desk_at(rt, text, deadline)?;
+    let mut to = Talk::new(rt, socket, deadline);
+    let mut from = Talk::new(rt, socket, deadline);
+    match exchange(rt.alloc(), line, &mut to, &mut from) {
+        Ok(reply) => Ok(reply),
+        Err(fault) => Err(talk_failure(rt, text, fault)),
+    }
+}
+
+/// A connection to the desk at the address, HOST:PORT or unix:PATH, within the time.
+fn desk_at(rt: &HostRuntime, text: &str, deadline: Deadline) -> Result<DeskSocket, Failure>
+    ensures named { IfErr result (IsNamed text.now) }
+{
+    let place = place_at(rt, text)?;
+    match connect(rt, &place, deadline) {
+        Ok(socket) => Ok(socket),
+        Err(error) => {
+            let fault = Fault::Talk(TalkFault::NoAnswer);
+            Err(Failure::at(rt.alloc(), fault, text, Whereabouts::Connect, &error))
+        }
+    }
+}
+
+/// Prints the reply of the desk at the address. The status is that of the reply.
+fn tell_reply(rt: &HostRuntime, text: &str, reply: Vec<u8>, json: bool) -> Result<u8, Failure>
+    ensures named { IfErr result (IsNamed text.now) }
+{
+    match print_reply(rt, reply, json) {
+        Ok(status) => Ok(status),
+        Err(fault) => Err(talk_failure(rt, text, fault)),
+    }
+}
+
+/// Prints a reply as it stands, or as an object of JSON.
+fn print_reply(rt: &HostRuntime, reply: Vec<u8>, json: bool) -> Result<u8, TalkFault> {
+    let mut output = io::writer(rt);
+    if json {
+        tell_object(rt.alloc(), &reply, &mut output)
+    } else {
+        tell(reply, &mut output)
+    }
+}
+
+/// The failure of a talk over a connection that was made.
+fn talk_failure(rt: &HostRuntime, address: &str, fault: TalkFault) -> Failure
+    ensures fault { result.fault ≡ ends.Talk fault }
+    ensures named { IsNamed address.now result }
+{
+    match fault {
+        TalkFault::NoAnswer => {
+            let words = "connected, but no reply came";
+            Failure::at(
+                rt.alloc(),
+                Fault::Talk(fault),
+                address,
+                Whereabouts::Whole,
+                &words,
+            )
+        }
+        _ => Failure::from(Fault::Talk(fault)),
+    }
 }

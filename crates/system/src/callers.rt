@@ -27,12 +27,6 @@ pub struct Cluster<'a> {
     pub timeout: Option<u32>,
 }
 
-/// The milliseconds that a command over a cluster takes at most, where no time is told.
-pub const IN_ALL: u32 = 10_000;
-
-/// The seconds of a wait without an end, after which it begins anew.
-const LONG: u64 = 3600;
-
 impl<'a> Cluster<'a> {
     /// The client's settings. [`Fault::Question`]: the cluster hasn't this question.
     pub fn read(&self, host: &HostRuntime, question: u16) -> Result<ClientSettings, Failure> {
@@ -56,6 +50,12 @@ impl<'a> Cluster<'a> {
         deadline_within(host, Some(self.timeout.unwrap_or(IN_ALL)))
     }
 }
+
+/// The milliseconds that a command over a cluster takes at most, where no time is told.
+pub const IN_ALL: u32 = 10_000;
+
+/// The seconds of a wait without an end, after which it begins anew.
+const LONG: u64 = 3600;
 
 /// The end of a command that begins now and takes so many milliseconds at most, if it has one.
 pub fn deadline_within(host: &HostRuntime, limit: Option<u32>) -> Result<Deadline, Failure> {
@@ -82,24 +82,6 @@ pub struct Calls {
     deadline: Deadline,
     /// An end before that one, once there is one.
     sooner: Option<Deadline>,
-}
-
-/// Starts a thread that calls a member. If the system refuses it, the member counts as one that
-/// doesn't answer.
-fn spawn<R: Caller>(rt: &R, errand: &Arc<Errand>, client: &ClientSettings, member: u8) {
-    let Some(desk) = client.desks.get(usize::from(member)) else {
-        return;
-    };
-    let desk = *desk;
-    let theirs: Result<Arc<Errand>, AllocError> = errand.clone();
-    let Ok(theirs) = theirs else {
-        return errand.board.leave(rt, member, None);
-    };
-    let own = *rt;
-    match thread::spawn(rt, move || call(own, theirs, member, desk)) {
-        Ok(_left) => {}
-        Err(_) => errand.board.leave(rt, member, None),
-    }
 }
 
 impl Calls {
@@ -149,6 +131,13 @@ impl Calls {
         }
     }
 
+    /// Returns what members said since the last call, once one said something; none where the time
+    /// is over.
+    pub fn next<R: Caller>(&self, rt: &R, host: &HostRuntime) -> Option<Vec<News>> {
+        let limit = self.left(host)?;
+        Some(self.errand.board.take(rt, limit))
+    }
+
     /// The time that is left; none where it is over.
     fn left(&self, host: &HostRuntime) -> Option<Duration> {
         let Ok(left) = self.deadline.left(host, LONG) else {
@@ -162,11 +151,22 @@ impl Calls {
             },
         }
     }
+}
 
-    /// Returns what members said since the last call, once one said something; none where the time
-    /// is over.
-    pub fn next<R: Caller>(&self, rt: &R, host: &HostRuntime) -> Option<Vec<News>> {
-        let limit = self.left(host)?;
-        Some(self.errand.board.take(rt, limit))
+/// Starts a thread that calls a member. If the system refuses it, the member counts as one that
+/// doesn't answer.
+fn spawn<R: Caller>(rt: &R, errand: &Arc<Errand>, client: &ClientSettings, member: u8) {
+    let Some(desk) = client.desks.get(usize::from(member)) else {
+        return;
+    };
+    let desk = *desk;
+    let theirs: Result<Arc<Errand>, AllocError> = errand.clone();
+    let Ok(theirs) = theirs else {
+        return errand.board.leave(rt, member, None);
+    };
+    let own = *rt;
+    match thread::spawn(rt, move || call(own, theirs, member, desk)) {
+        Ok(_left) => {}
+        Err(_) => errand.board.leave(rt, member, None),
     }
 }

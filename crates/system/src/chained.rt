@@ -1,4 +1,4 @@
-//! The command `run` of a member of a chain: begin at `run_chain`, last.
+//! The command `run` of a member of a chain: begin at `run_chain`.
 
 ghost use Rattle.member.specs.Sound.{HasItsFile, IsSound};
 ghost use Rattle.member.specs.Readers.{member_saved, member_is_stopped, MemberStandsFor};
@@ -50,65 +50,80 @@ pub(crate) struct Chained<'a> {
     failed: Mutex<Option<Failure>>,
 }
 
-/// An epoch, and its journal.
-#[derive(Clone, Copy, Drop)]
-struct Epoch<'a> {
-    number: u64,
-    path: &'a str,
-    header: Header,
-}
-
-/// The operator of an epoch: it ends once it isn't needed.
-#[derive(Drop)]
-struct EpochOperator<'a, R> {
-    rt: &'a R,
-    board: &'a Switchboard,
-    epoch: u64,
-    seed: &'a [u8; 32],
-    /// Set once the member is stopped, which ends it.
-    stopped: &'a AtomicBool,
-}
-
-impl<R: Machine> Operator for EpochOperator<'_, R> {
-    ghost use Rattle.std.specs.Prelude.{◌≡◌, ◌++◌, codes};
-    ghost use Rattle.std.specs.Int.{to_be_bytes, w64};
-    ghost use Rattle.sha2.specs.Sha256.{sha256};
-
-    // The coins of an epoch are its own.
-    ghost may_toss_from = { λ operator seed.
-        seed ≡ sha256 (codes "epoch" ++ (operator.seed.now ++ to_be_bytes w64 operator.epoch)) };
-
-    fn ready(&mut self) -> Result<(), RunFault> {
-        self.board.note_ready(self.rt, self.epoch);
-        Ok(())
-    }
-
-    fn until_end(&mut self) -> Result<(), RunFault> {
-        self.board.await_end(self.rt, self.epoch, self.stopped);
-        Ok(())
-    }
-}
-
 impl Chained<'_> {
-    /// Returns the header of an epoch's journal.
-    fn header(&self, epoch: u64) -> Result<Header, Failure> {
-        let own = self.settings.header;
-        match self.board.chain().cluster_of(epoch) {
-            Some(cluster) => match Header::new(cluster, own.size(), own.me()) {
-                Some(header) => Ok(header),
-                None => Err(Failure::from(Fault::Memory)),
-            },
-            None => {
-                let words = "the chain has come to its last cluster number";
-                Err(Failure::at(
-                    self.host.alloc(),
-                    Fault::File,
-                    self.folder,
-                    Whereabouts::Whole,
-                    &words,
-                ))
+    /// Runs an epoch to its end, in a thread of its own. Where it fails all epochs end.
+    fn run_epoch<R: Machine>(&self, rt: &R, epoch: u64, doors: Doors) {
+        let verdicts = match self.run_one(rt, epoch, doors) {
+            Ok(verdicts) => verdicts,
+            Err(failure) => {
+                self.fail(rt, failure);
+                Verdicts::gone(self.host.alloc())
             }
+        };
+        self.board.leave(rt, epoch, verdicts);
+    }
+
+    /// Runs an epoch to its end, and returns how its questions were decided.
+    fn run_one<R: Machine>(&self, rt: &R, number: u64, doors: Doors) -> Result<Verdicts, Failure> {
+        let header = self.header(number)?;
+        let path = epoch_path(self.host.alloc(), self.folder, number).map_err(|_| Fault::Memory)?;
+        let epoch = Epoch {
+            number,
+            path: path.as_str(),
+            header,
+        };
+        if self.is_put_away(rt, &epoch) {
+            return Ok(Verdicts::gone(self.host.alloc()));
         }
+        self.run_at::<R, Brand>(rt, &epoch, doors)?;
+        look_into(&self.host, path.as_str(), &header)
+    }
+
+    /// Returns `true` if the journal of an epoch behind the newest was put away while the process
+    /// runs. Such an epoch doesn't run: a peer that asks for it ends nothing.
+    fn is_put_away<R: Machine>(&self, rt: &R, epoch: &Epoch<'_>) -> bool {
+        let made = *self.made.lock(rt);
+        let is_behind = epoch.number < made && epoch.number < self.board.newest(rt);
+        is_behind && is_missing(&self.host, epoch.path)
+    }
+
+    /// Runs an epoch to its end. Its journal is made, if there is none.
+    fn run_at<R: Machine, P: Premise + Send>(
+        &self,
+        rt: &R,
+        epoch: &Epoch<'_>,
+        doors: Doors,
+    ) -> Result<(), Failure> {
+        let host = &self.host;
+        refuse_forgotten(host, epoch.path, epoch.header.me())?;
+        self.make_journals(rt, epoch.number)?;
+        let (disk, source) = open_good_disk::<P>(host, epoch.path, Purpose::Run)?;
+        remove_old_mark(host, source.path);
+        let member = match open_member(host, &source, disk, &epoch.header) {
+            Ok(member) => member,
+            Err((failure, _)) => return Err(failure),
+        };
+        let addresses = self
+            .addresses_at(epoch.number, doors)
+            .map_err(|_| Fault::Memory)?;
+        match self.run_opened(rt, epoch.number, &source, member, addresses) {
+            Ok(()) => Ok(()),
+            Err(fault) => Err(self.failure_of(epoch, &source, fault)),
+        }
+    }
+
+    /// Makes the journals of the epochs up to this one that have none, one after the other.
+    fn make_journals<R: Machine>(&self, rt: &R, last: u64) -> Result<(), Failure> {
+        let mut made = self.made.lock(rt);
+        for epoch in *made..last.saturating_add(1) {
+            let header = self.header(epoch)?;
+            let path = epoch_path(self.host.alloc(), self.folder, epoch).map_err(
+                |_| Fault::Memory,
+            )?;
+            make_journal::<Brand>(&self.host, path.as_str(), &header)?;
+            *made = epoch.saturating_add(1);
+        }
+        Ok(())
     }
 
     /// Returns the addresses of an epoch's member, whose links and clients come in at these doors.
@@ -184,81 +199,6 @@ impl Chained<'_> {
         }
     }
 
-    /// Makes the journals of the epochs up to this one that have none, one after the other.
-    fn make_journals<R: Machine>(&self, rt: &R, last: u64) -> Result<(), Failure> {
-        let mut made = self.made.lock(rt);
-        for epoch in *made..last.saturating_add(1) {
-            let header = self.header(epoch)?;
-            let path = epoch_path(self.host.alloc(), self.folder, epoch).map_err(
-                |_| Fault::Memory,
-            )?;
-            make_journal::<Brand>(&self.host, path.as_str(), &header)?;
-            *made = epoch.saturating_add(1);
-        }
-        Ok(())
-    }
-
-    /// Runs an epoch to its end. Its journal is made, if there is none.
-    fn run_at<R: Machine, P: Premise + Send>(
-        &self,
-        rt: &R,
-        epoch: &Epoch<'_>,
-        doors: Doors,
-    ) -> Result<(), Failure> {
-        let host = &self.host;
-        refuse_forgotten(host, epoch.path, epoch.header.me())?;
-        self.make_journals(rt, epoch.number)?;
-        let (disk, source) = open_good_disk::<P>(host, epoch.path, Purpose::Run)?;
-        remove_old_mark(host, source.path);
-        let member = match open_member(host, &source, disk, &epoch.header) {
-            Ok(member) => member,
-            Err((failure, _)) => return Err(failure),
-        };
-        let addresses = self
-            .addresses_at(epoch.number, doors)
-            .map_err(|_| Fault::Memory)?;
-        match self.run_opened(rt, epoch.number, &source, member, addresses) {
-            Ok(()) => Ok(()),
-            Err(fault) => Err(self.failure_of(epoch, &source, fault)),
-        }
-    }
-
-    /// Returns `true` if the journal of an epoch behind the newest was put away while the process
-    /// runs. Such an epoch doesn't run: a peer that asks for it ends nothing.
-    fn is_put_away<R: Machine>(&self, rt: &R, epoch: &Epoch<'_>) -> bool {
-        let made = *self.made.lock(rt);
-        let is_behind = epoch.number < made && epoch.number < self.board.newest(rt);
-        is_behind && is_missing(&self.host, epoch.path)
-    }
-
-    /// Runs an epoch to its end, and returns how its questions were decided.
-    fn run_one<R: Machine>(&self, rt: &R, number: u64, doors: Doors) -> Result<Verdicts, Failure> {
-        let header = self.header(number)?;
-        let path = epoch_path(self.host.alloc(), self.folder, number).map_err(|_| Fault::Memory)?;
-        let epoch = Epoch {
-            number,
-            path: path.as_str(),
-            header,
-        };
-        if self.is_put_away(rt, &epoch) {
-            return Ok(Verdicts::gone(self.host.alloc()));
-        }
-        self.run_at::<R, Brand>(rt, &epoch, doors)?;
-        look_into(&self.host, path.as_str(), &header)
-    }
-
-    /// Runs an epoch to its end, in a thread of its own. Where it fails all epochs end.
-    fn run_epoch<R: Machine>(&self, rt: &R, epoch: u64, doors: Doors) {
-        let verdicts = match self.run_one(rt, epoch, doors) {
-            Ok(verdicts) => verdicts,
-            Err(failure) => {
-                self.fail(rt, failure);
-                Verdicts::gone(self.host.alloc())
-            }
-        };
-        self.board.leave(rt, epoch, verdicts);
-    }
-
     /// Notes the failure of an epoch, which ends the others.
     fn fail<R: Machine>(&self, rt: &R, failure: Failure) {
         let mut failed = self.failed.lock(rt);
@@ -267,13 +207,6 @@ impl Chained<'_> {
         }
         drop(failed);
         self.board.end(rt);
-    }
-
-    /// Returns what the journal of an epoch says.
-    fn verdicts_of(&self, epoch: u64) -> Result<Verdicts, Failure> {
-        let header = self.header(epoch)?;
-        let path = epoch_path(self.host.alloc(), self.folder, epoch).map_err(|_| Fault::Memory)?;
-        look_into(&self.host, path.as_str(), &header)
     }
 
     /// Adds the epochs whose journals are there, and those before them, which were put away.
@@ -290,10 +223,200 @@ impl Chained<'_> {
         *self.made.lock(rt) = last.saturating_add(1);
         Ok(())
     }
+
+    /// Returns what the journal of an epoch says.
+    fn verdicts_of(&self, epoch: u64) -> Result<Verdicts, Failure> {
+        let header = self.header(epoch)?;
+        let path = epoch_path(self.host.alloc(), self.folder, epoch).map_err(|_| Fault::Memory)?;
+        look_into(&self.host, path.as_str(), &header)
+    }
+
+    /// Returns the header of an epoch's journal.
+    fn header(&self, epoch: u64) -> Result<Header, Failure> {
+        let own = self.settings.header;
+        match self.board.chain().cluster_of(epoch) {
+            Some(cluster) => match Header::new(cluster, own.size(), own.me()) {
+                Some(header) => Ok(header),
+                None => Err(Failure::from(Fault::Memory)),
+            },
+            None => {
+                let words = "the chain has come to its last cluster number";
+                Err(Failure::at(
+                    self.host.alloc(),
+                    Fault::File,
+                    self.folder,
+                    Whereabouts::Whole,
+                    &words,
+                ))
+            }
+        }
+    }
 }
 
-/// The address at which a process can't listen, and the number of the system's error.
-type Unheard = Mutex<Option<(SocketAddr, i32)>>;
+/// An epoch, and its journal.
+#[derive(Clone, Copy, Drop)]
+struct Epoch<'a> {
+    number: u64,
+    path: &'a str,
+    header: Header,
+}
+
+/// The operator of an epoch: it ends once it isn't needed.
+#[derive(Drop)]
+struct EpochOperator<'a, R> {
+    rt: &'a R,
+    board: &'a Switchboard,
+    epoch: u64,
+    seed: &'a [u8; 32],
+    /// Set once the member is stopped, which ends it.
+    stopped: &'a AtomicBool,
+}
+
+impl<R: Machine> Operator for EpochOperator<'_, R> {
+    ghost use Rattle.std.specs.Prelude.{◌≡◌, ◌++◌, codes};
+    ghost use Rattle.std.specs.Int.{to_be_bytes, w64};
+    ghost use Rattle.sha2.specs.Sha256.{sha256};
+
+    // The coins of an epoch are its own.
+    ghost may_toss_from = { λ operator seed.
+        seed ≡ sha256 (codes "epoch" ++ (operator.seed.now ++ to_be_bytes w64 operator.epoch)) };
+
+    fn ready(&mut self) -> Result<(), RunFault> {
+        self.board.note_ready(self.rt, self.epoch);
+        Ok(())
+    }
+
+    fn until_end(&mut self) -> Result<(), RunFault> {
+        self.board.await_end(self.rt, self.epoch, self.stopped);
+        Ok(())
+    }
+}
+
+/// The order for a chain's run.
+#[derive(Clone, Copy, Drop)]
+pub(crate) struct ChainOrder<'a> {
+    pub(crate) settings: &'a Settings,
+    pub(crate) folder: &'a str,
+    pub(crate) form: LogForm,
+    pub(crate) any_host: bool,
+    pub(crate) clients: u8,
+    pub(crate) followers: u16,
+}
+
+/// Runs the member of a chain until its console ends it.
+pub(crate) fn run_chain<R: Machine>(
+    rt: &R,
+    order: ChainOrder<'_>,
+    mut console: Console<'_>,
+    local: Option<UnixListener>,
+) -> Result<u8, Failure> {
+    let host = console.host;
+    let it = prepare(host, &order)?;
+    it.find_epochs(rt)?;
+    let fronts = fronts_of(host.alloc(), &order, local)?;
+    let unheard: Unheard = Mutex::new(None);
+    let run = run_all(rt, &it, fronts, &unheard, &mut console);
+    let fault = match run {
+        Ok(()) if it.failed.lock(rt).is_none() => return Ok(0),
+        Ok(()) => RunFault::Stopped,
+        Err(fault) => fault,
+    };
+    Err(chain_failure(rt, &it, &unheard, &mut console, fault))
+}
+
+/// Returns what the epochs of a process are given.
+fn prepare<'a>(host: &HostRuntime, order: &ChainOrder<'a>) -> Result<Chained<'a>, Failure> {
+    let (settings, alloc) = (order.settings, host.alloc());
+    let chain = Chain::new(settings.header.cluster(), settings.header.size());
+    let board = Switchboard::new(alloc, chain, settings.header.me());
+    let Ok(board) = Arc::new(alloc, board) else {
+        return Err(Failure::from(Fault::Memory));
+    };
+    Ok(Chained {
+        host: *host,
+        settings,
+        folder: order.folder,
+        board,
+        form: order.form,
+        any_host: order.any_host,
+        clients: order.clients,
+        followers: order.followers,
+        made: Mutex::new(0),
+        failed: Mutex::new(None),
+    })
+}
+
+/// Returns where the process of a chain listens.
+fn fronts_of(
+    alloc: Global,
+    order: &ChainOrder<'_>,
+    local: Option<UnixListener>,
+) -> Result<Fronts, Failure> {
+    let Some(own) = own_links(order.settings) else {
+        return Err(Failure::from(Fault::Run(RunFault::Listen)));
+    };
+    let hosts = hosts_of(alloc, order.settings, order.any_host).map_err(|_| Fault::Memory)?;
+    Ok(Fronts {
+        links: socket_address(&own),
+        desk: socket_address(&order.settings.desk),
+        local,
+        hosts,
+    })
+}
+
+/// The hosts of the members; none if links are taken from any host.
+fn hosts_of(
+    alloc: Global,
+    settings: &Settings,
+    any_host: bool,
+) -> Result<Option<Vec<IpAddr>>, AllocError> {
+    if any_host {
+        return Ok(None);
+    }
+    let mut hosts = Vec::new(alloc);
+    for peer in &settings.peers {
+        hosts.push(IpAddr::from(peer.octets))?;
+    }
+    Ok(Some(hosts))
+}
+
+/// Runs the doors and the epochs to their end.
+fn run_all<R: Machine>(
+    rt: &R,
+    it: &Chained<'_>,
+    fronts: Fronts,
+    unheard: &Unheard,
+    console: &mut Console<'_>,
+) -> Result<(), RunFault> {
+    let closed = Mutex::new(Ok(()));
+    let (doors, board) = (&closed, &it.board);
+    let run = thread::scope(thread::scope_env(), rt, |scope| -> Result<(), RunFault> {
+        let opens = move || open_doors(rt, board, fronts, unheard, doors);
+        if scope.spawn(opens).is_err() {
+            return Err(RunFault::Memory);
+        }
+        run_epochs(rt, it, console)
+    });
+    let doors = *closed.lock(rt);
+    match doors {
+        Ok(()) => run,
+        Err(fault) => Err(fault),
+    }
+}
+
+/// Takes links and clients in until all epochs are to end. Where it can't, they end.
+fn open_doors<R: Machine>(
+    rt: &R,
+    board: &Switchboard,
+    fronts: Fronts,
+    unheard: &Unheard,
+    closed: &Mutex<Result<(), RunFault>>,
+) {
+    let mut operator = FrontOperator { rt, board, unheard };
+    let end = run_fronts(rt, board, fronts, &mut operator);
+    *closed.lock(rt) = end;
+    board.end(rt);
+}
 
 /// The operator of a chain's doors: they are open until all epochs are to end.
 #[derive(Drop)]
@@ -316,49 +439,6 @@ impl<R: Machine> Operator for FrontOperator<'_, R> {
     fn unheard(&mut self, address: SocketAddr, error: &io::Error) {
         *self.unheard.lock(self.rt) = Some((address, error.raw_os_error().unwrap_or(0)));
     }
-}
-
-/// The next step of a chain's operator.
-enum Step {
-    /// Runs this epoch.
-    Run(u64, Doors),
-    /// Looks again.
-    Look,
-    /// Ends so.
-    End(Result<(), RunFault>),
-}
-
-/// Returns what a chain's operator does next; where that is nothing, after a moment.
-fn next_step<R: Machine>(rt: &R, it: &Chained<'_>, console: &mut Console<'_>, turn: u64) -> Step {
-    if it.board.is_ended() {
-        return Step::End(Ok(()));
-    }
-    if let Some(end) = console.end_at(turn) {
-        return Step::End(end);
-    }
-    match it.board.open_next(rt) {
-        Ok(Some((epoch, doors))) => Step::Run(epoch, doors),
-        Ok(None) => {
-            it.board.rest(rt, Duration::from_millis(50));
-            Step::Look
-        }
-        Err(Memory) => Step::End(Err(RunFault::Memory)),
-    }
-}
-
-/// Tells the console that the member is ready, once the newest epoch listens. Returns `true` if it
-/// was told.
-fn tell_ready<R: Machine>(
-    rt: &R,
-    it: &Chained<'_>,
-    console: &mut Console<'_>,
-    is_told: bool,
-) -> Result<bool, RunFault> {
-    if is_told || !it.board.is_ready(rt) {
-        return Ok(is_told);
-    }
-    console.ready()?;
-    Ok(true)
 }
 
 /// Runs the epochs that are needed, until the console ends the chain, or one of them fails.
@@ -395,109 +475,47 @@ fn run_epochs<R: Machine>(
     })
 }
 
-/// Takes links and clients in until all epochs are to end. Where it can't, they end.
-fn open_doors<R: Machine>(
-    rt: &R,
-    board: &Switchboard,
-    fronts: Fronts,
-    unheard: &Unheard,
-    closed: &Mutex<Result<(), RunFault>>,
-) {
-    let mut operator = FrontOperator { rt, board, unheard };
-    let end = run_fronts(rt, board, fronts, &mut operator);
-    *closed.lock(rt) = end;
-    board.end(rt);
-}
-
-/// Runs the doors and the epochs to their end.
-fn run_all<R: Machine>(
+/// Tells the console that the member is ready, once the newest epoch listens. Returns `true` if it
+/// was told.
+fn tell_ready<R: Machine>(
     rt: &R,
     it: &Chained<'_>,
-    fronts: Fronts,
-    unheard: &Unheard,
     console: &mut Console<'_>,
-) -> Result<(), RunFault> {
-    let closed = Mutex::new(Ok(()));
-    let (doors, board) = (&closed, &it.board);
-    let run = thread::scope(thread::scope_env(), rt, |scope| -> Result<(), RunFault> {
-        let opens = move || open_doors(rt, board, fronts, unheard, doors);
-        if scope.spawn(opens).is_err() {
-            return Err(RunFault::Memory);
+    is_told: bool,
+) -> Result<bool, RunFault> {
+    if is_told || !it.board.is_ready(rt) {
+        return Ok(is_told);
+    }
+    console.ready()?;
+    Ok(true)
+}
+
+/// Returns what a chain's operator does next; where that is nothing, after a moment.
+fn next_step<R: Machine>(rt: &R, it: &Chained<'_>, console: &mut Console<'_>, turn: u64) -> Step {
+    if it.board.is_ended() {
+        return Step::End(Ok(()));
+    }
+    if let Some(end) = console.end_at(turn) {
+        return Step::End(end);
+    }
+    match it.board.open_next(rt) {
+        Ok(Some((epoch, doors))) => Step::Run(epoch, doors),
+        Ok(None) => {
+            it.board.rest(rt, Duration::from_millis(50));
+            Step::Look
         }
-        run_epochs(rt, it, console)
-    });
-    let doors = *closed.lock(rt);
-    match doors {
-        Ok(()) => run,
-        Err(fault) => Err(fault),
+        Err(Memory) => Step::End(Err(RunFault::Memory)),
     }
 }
 
-/// The hosts of the members; none if links are taken from any host.
-fn hosts_of(
-    alloc: Global,
-    settings: &Settings,
-    any_host: bool,
-) -> Result<Option<Vec<IpAddr>>, AllocError> {
-    if any_host {
-        return Ok(None);
-    }
-    let mut hosts = Vec::new(alloc);
-    for peer in &settings.peers {
-        hosts.push(IpAddr::from(peer.octets))?;
-    }
-    Ok(Some(hosts))
-}
-
-/// The order for a chain's run.
-#[derive(Clone, Copy, Drop)]
-pub(crate) struct ChainOrder<'a> {
-    pub(crate) settings: &'a Settings,
-    pub(crate) folder: &'a str,
-    pub(crate) form: LogForm,
-    pub(crate) any_host: bool,
-    pub(crate) clients: u8,
-    pub(crate) followers: u16,
-}
-
-/// Returns where the process of a chain listens.
-fn fronts_of(
-    alloc: Global,
-    order: &ChainOrder<'_>,
-    local: Option<UnixListener>,
-) -> Result<Fronts, Failure> {
-    let Some(own) = own_links(order.settings) else {
-        return Err(Failure::from(Fault::Run(RunFault::Listen)));
-    };
-    let hosts = hosts_of(alloc, order.settings, order.any_host).map_err(|_| Fault::Memory)?;
-    Ok(Fronts {
-        links: socket_address(&own),
-        desk: socket_address(&order.settings.desk),
-        local,
-        hosts,
-    })
-}
-
-/// Returns what the epochs of a process are given.
-fn prepare<'a>(host: &HostRuntime, order: &ChainOrder<'a>) -> Result<Chained<'a>, Failure> {
-    let (settings, alloc) = (order.settings, host.alloc());
-    let chain = Chain::new(settings.header.cluster(), settings.header.size());
-    let board = Switchboard::new(alloc, chain, settings.header.me());
-    let Ok(board) = Arc::new(alloc, board) else {
-        return Err(Failure::from(Fault::Memory));
-    };
-    Ok(Chained {
-        host: *host,
-        settings,
-        folder: order.folder,
-        board,
-        form: order.form,
-        any_host: order.any_host,
-        clients: order.clients,
-        followers: order.followers,
-        made: Mutex::new(0),
-        failed: Mutex::new(None),
-    })
+/// The next step of a chain's operator.
+enum Step {
+    /// Runs this epoch.
+    Run(u64, Doors),
+    /// Looks again.
+    Look,
+    /// Ends so.
+    End(Result<(), RunFault>),
 }
 
 /// Returns the failure of a chain whose run ended so: the first of its epochs' failures, or what
@@ -522,23 +540,5 @@ fn chain_failure<R: Machine>(
     }
 }
 
-/// Runs the member of a chain until its console ends it.
-pub(crate) fn run_chain<R: Machine>(
-    rt: &R,
-    order: ChainOrder<'_>,
-    mut console: Console<'_>,
-    local: Option<UnixListener>,
-) -> Result<u8, Failure> {
-    let host = console.host;
-    let it = prepare(host, &order)?;
-    it.find_epochs(rt)?;
-    let fronts = fronts_of(host.alloc(), &order, local)?;
-    let unheard: Unheard = Mutex::new(None);
-    let run = run_all(rt, &it, fronts, &unheard, &mut console);
-    let fault = match run {
-        Ok(()) if it.failed.lock(rt).is_none() => return Ok(0),
-        Ok(()) => RunFault::Stopped,
-        Err(fault) => fault,
-    };
-    Err(chain_failure(rt, &it, &unheard, &mut console, fault))
-}
+/// The address at which a process can't listen, and the number of the system's error.
+type Unheard = Mutex<Option<(SocketAddr, i32)>>;

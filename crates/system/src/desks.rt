@@ -20,16 +20,6 @@ pub enum DeskPlace<'a> {
     Path(&'a str),
 }
 
-/// The path of the Unix socket that the text `unix:PATH` names.
-fn path_in(text: &str) -> Option<DeskPlace<'_>>
-    ensures { IfSome result (IsDeskPlace text.now) }
-{
-    match text.strip_prefix("unix:") {
-        Some(path) if !path.is_empty() => Some(DeskPlace::Path(path)),
-        _ => None,
-    }
-}
-
 /// Returns the place of a desk that the text names: `unix:PATH`, or `HOST:PORT` as
 /// [`Address::parse`] reads it. `None` if it is neither.
 pub fn desk_place(text: &str) -> Option<DeskPlace<'_>>
@@ -38,6 +28,16 @@ pub fn desk_place(text: &str) -> Option<DeskPlace<'_>>
     match Address::parse(text) {
         Some(address) => Some(DeskPlace::Host(address)),
         None => path_in(text),
+    }
+}
+
+/// The path of the Unix socket that the text `unix:PATH` names.
+fn path_in(text: &str) -> Option<DeskPlace<'_>>
+    ensures { IfSome result (IsDeskPlace text.now) }
+{
+    match text.strip_prefix("unix:") {
+        Some(path) if !path.is_empty() => Some(DeskPlace::Path(path)),
+        _ => None,
     }
 }
 
@@ -58,40 +58,6 @@ pub struct Deadline {
     start: Instant,
     /// The time that it waits in all, if that is limited.
     total: Option<Duration>,
-}
-
-/// Returns how long a client waits in all that is told so many milliseconds, one at least.
-fn total_of(timeout: Option<u32>) -> Option<Duration> {
-    match timeout {
-        Some(milliseconds) => Some(Duration::from_millis(u64::from(milliseconds.max(1)))),
-        None => None,
-    }
-}
-
-/// Returns how much is left of a time when so much of it has passed. None: nothing.
-fn rest_of(whole: Duration, passed: Duration) -> Option<Duration>
-    ensures over { as_nanos whole ≤ as_nanos passed → result ≡ None }
-    ensures left { IfSome result (λ left. as_nanos left ≡ as_nanos whole - as_nanos passed) }
-{
-    let left = whole.saturating_sub(passed);
-    if left.is_zero() {
-        return None;
-    }
-    Some(left)
-}
-
-/// Returns how much is left of a time in all when so much has passed, or of a step of so many
-/// seconds where the time isn't limited. None: nothing.
-fn left_of(total: Option<Duration>, passed: Duration, step: u64) -> Option<Duration>
-    ensures over { (whole : Duration) → total ≡ Some whole → as_nanos whole ≤ as_nanos passed →
-        result ≡ None }
-    ensures left { (whole : Duration) → total ≡ Some whole →
-        IfSome result (λ left. as_nanos left ≡ as_nanos whole - as_nanos passed) }
-{
-    match total {
-        Some(whole) => rest_of(whole, passed),
-        None => Some(Duration::from_secs(step)),
-    }
 }
 
 impl Deadline {
@@ -123,6 +89,40 @@ impl Deadline {
             Err(_) => true,
         }
     }
+}
+
+/// Returns how long a client waits in all that is told so many milliseconds, one at least.
+fn total_of(timeout: Option<u32>) -> Option<Duration> {
+    match timeout {
+        Some(milliseconds) => Some(Duration::from_millis(u64::from(milliseconds.max(1)))),
+        None => None,
+    }
+}
+
+/// Returns how much is left of a time in all when so much has passed, or of a step of so many
+/// seconds where the time isn't limited. None: nothing.
+fn left_of(total: Option<Duration>, passed: Duration, step: u64) -> Option<Duration>
+    ensures over { (whole : Duration) → total ≡ Some whole → as_nanos whole ≤ as_nanos passed →
+        result ≡ None }
+    ensures left { (whole : Duration) → total ≡ Some whole →
+        IfSome result (λ left. as_nanos left ≡ as_nanos whole - as_nanos passed) }
+{
+    match total {
+        Some(whole) => rest_of(whole, passed),
+        None => Some(Duration::from_secs(step)),
+    }
+}
+
+/// Returns how much is left of a time when so much of it has passed. None: nothing.
+fn rest_of(whole: Duration, passed: Duration) -> Option<Duration>
+    ensures over { as_nanos whole ≤ as_nanos passed → result ≡ None }
+    ensures left { IfSome result (λ left. as_nanos left ≡ as_nanos whole - as_nanos passed) }
+{
+    let left = whole.saturating_sub(passed);
+    if left.is_zero() {
+        return None;
+    }
+    Some(left)
 }
 
 /// A connection to a desk.

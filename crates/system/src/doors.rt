@@ -58,13 +58,18 @@ pub fn foreign_words(alloc: Global, door: Door) -> Result<String, AllocError>
     }
 }
 
-/// The failure of an address at which a member of these settings can't listen.
-fn listen_failure(rt: &HostRuntime, address: &Address, words: &str) -> Failure {
-    let fault = Fault::Run(RunFault::Listen);
-    match address_text(rt.alloc(), address) {
-        Ok(at) => Failure::at(rt.alloc(), fault, at.as_str(), Whereabouts::Listen, &words),
-        Err(_) => Failure::from(Fault::Memory),
+/// Refuses settings by which this host can't listen at all addresses of its member: two of them are
+/// one, two members have one, or one of them isn't this host's. An address at which somebody
+/// listens already is taken.
+///
+/// [`Fault::Run`] with [`RunFault::Listen`]: it can't.
+pub fn keep_to_own_doors(rt: &HostRuntime, settings: &Settings) -> Result<(), Failure> {
+    keep_ports_apart(rt, settings)?;
+    keep_members_apart(rt, settings)?;
+    if let Some(own) = own_links(settings) {
+        keep_to_host(rt, &own, own_door(settings))?;
     }
+    keep_to_host(rt, &settings.desk, Door::Desk)
 }
 
 /// Refuses settings in which a member's desk is where its own links are, or another member's.
@@ -84,6 +89,19 @@ fn keep_ports_apart(rt: &HostRuntime, settings: &Settings) -> Result<(), Failure
         "the desk has the address of member {member}'s links"
     ).map_err(|_| Fault::Memory)?;
     Err(listen_failure(rt, &settings.desk, words.as_str()))
+}
+
+/// Refuses settings in which two members have one address, since only one of them can listen there.
+///
+/// [`Fault::Run`] with [`RunFault::Listen`]: two have.
+fn keep_members_apart(rt: &HostRuntime, settings: &Settings) -> Result<(), Failure> {
+    let Some((one, other, address)) = twins_of(&settings.peers) else {
+        return Ok(());
+    };
+    match clash_at(rt.alloc(), one, other, &address) {
+        Ok(failure) => Err(failure),
+        Err(_) => Err(Failure::from(Fault::Memory)),
+    }
 }
 
 /// Two members that have one address, and the address: the second is the first member that has one
@@ -110,15 +128,15 @@ fn clash_at(
     Ok(Failure::at(alloc, fault, at.as_str(), Whereabouts::Listen, &words))
 }
 
-/// Refuses settings in which two members have one address, since only one of them can listen there.
+/// Refuses an address that isn't this host's, and that this key names.
 ///
-/// [`Fault::Run`] with [`RunFault::Listen`]: two have.
-fn keep_members_apart(rt: &HostRuntime, settings: &Settings) -> Result<(), Failure> {
-    let Some((one, other, address)) = twins_of(&settings.peers) else {
+/// [`Fault::Run`] with [`RunFault::Listen`]: it isn't.
+fn keep_to_host(rt: &HostRuntime, address: &Address, door: Door) -> Result<(), Failure> {
+    if is_of_host(rt, address) {
         return Ok(());
-    };
-    match clash_at(rt.alloc(), one, other, &address) {
-        Ok(failure) => Err(failure),
+    }
+    match foreign_words(rt.alloc(), door) {
+        Ok(words) => Err(listen_failure(rt, address, words.as_str())),
         Err(_) => Err(Failure::from(Fault::Memory)),
     }
 }
@@ -133,29 +151,11 @@ fn is_of_host(rt: &HostRuntime, address: &Address) -> bool {
     }
 }
 
-/// Refuses an address that isn't this host's, and that this key names.
-///
-/// [`Fault::Run`] with [`RunFault::Listen`]: it isn't.
-fn keep_to_host(rt: &HostRuntime, address: &Address, door: Door) -> Result<(), Failure> {
-    if is_of_host(rt, address) {
-        return Ok(());
+/// The failure of an address at which a member of these settings can't listen.
+fn listen_failure(rt: &HostRuntime, address: &Address, words: &str) -> Failure {
+    let fault = Fault::Run(RunFault::Listen);
+    match address_text(rt.alloc(), address) {
+        Ok(at) => Failure::at(rt.alloc(), fault, at.as_str(), Whereabouts::Listen, &words),
+        Err(_) => Failure::from(Fault::Memory),
     }
-    match foreign_words(rt.alloc(), door) {
-        Ok(words) => Err(listen_failure(rt, address, words.as_str())),
-        Err(_) => Err(Failure::from(Fault::Memory)),
-    }
-}
-
-/// Refuses settings by which this host can't listen at all addresses of its member: two of them are
-/// one, two members have one, or one of them isn't this host's. An address at which somebody
-/// listens already is taken.
-///
-/// [`Fault::Run`] with [`RunFault::Listen`]: it can't.
-pub fn keep_to_own_doors(rt: &HostRuntime, settings: &Settings) -> Result<(), Failure> {
-    keep_ports_apart(rt, settings)?;
-    keep_members_apart(rt, settings)?;
-    if let Some(own) = own_links(settings) {
-        keep_to_host(rt, &own, own_door(settings))?;
-    }
-    keep_to_host(rt, &settings.desk, Door::Desk)
 }

@@ -15,15 +15,6 @@ use std::alloc::{AllocError, Global};
 use std::{fs, io};
 use terms::{Header, Memory};
 
-/// Returns the path of an epoch's journal.
-pub(crate) fn epoch_path(alloc: Global, folder: &str, epoch: u64) -> Result<String, AllocError>
-    ensures { IfOk result
-        (λ path. string_bytes path ≡ folder.now
-        ++ (codes "/" ++ (decimal epoch ++ codes ".journal"))) }
-{
-    format!(in alloc; "{folder}/{epoch}.journal")
-}
-
 /// Returns the path of the journal that `init` makes of these settings: that of the first epoch, if
 /// the member is one of a chain.
 pub(crate) fn first_journal(alloc: Global, settings: &Settings) -> Result<String, AllocError> {
@@ -33,17 +24,13 @@ pub(crate) fn first_journal(alloc: Global, settings: &Settings) -> Result<String
     }
 }
 
-/// Returns `true` if nothing has this path.
-pub(crate) fn is_missing(host: &HostRuntime, path: &str) -> bool {
-    match fs::symlink_metadata(host, path) {
-        Ok(_) => false,
-        Err(error) => error.kind() == io::ErrorKind::NotFound,
-    }
-}
-
-/// Returns the epoch whose journal has this name, if one's has.
-fn epoch_named(name: &str) -> Option<u64> {
-    number(name.strip_suffix(".journal")?.as_bytes())
+/// Returns the path of an epoch's journal.
+pub(crate) fn epoch_path(alloc: Global, folder: &str, epoch: u64) -> Result<String, AllocError>
+    ensures { IfOk result
+        (λ path. string_bytes path ≡ folder.now
+        ++ (codes "/" ++ (decimal epoch ++ codes ".journal"))) }
+{
+    format!(in alloc; "{folder}/{epoch}.journal")
 }
 
 /// The first and the last epoch whose journals are in a folder.
@@ -51,32 +38,6 @@ fn epoch_named(name: &str) -> Option<u64> {
 pub(crate) struct Span {
     pub(crate) first: u64,
     pub(crate) last: u64,
-}
-
-/// Returns the span with one epoch more.
-fn with_epoch(span: Option<Span>, epoch: u64) -> Span {
-    match span {
-        Some(Span { first, last }) => Span {
-            first: first.min(epoch),
-            last: last.max(epoch),
-        },
-        None => Span {
-            first: epoch,
-            last: epoch,
-        },
-    }
-}
-
-/// Returns the epochs whose journals are in the folder.
-fn span_in(host: &HostRuntime, folder: &str) -> io::Result<Option<Span>> {
-    let mut span = None;
-    for entry in fs::read_dir(host, folder)? {
-        let entry = entry?;
-        if let Some(epoch) = epoch_named(entry.file_name()) {
-            span = Some(with_epoch(span, epoch));
-        }
-    }
-    Ok(span)
 }
 
 /// The words on a chain of which no journal is there.
@@ -95,6 +56,37 @@ pub(crate) fn epochs_in(host: &HostRuntime, folder: &str) -> Result<Span, Failur
     }
 }
 
+/// Returns the epochs whose journals are in the folder.
+fn span_in(host: &HostRuntime, folder: &str) -> io::Result<Option<Span>> {
+    let mut span = None;
+    for entry in fs::read_dir(host, folder)? {
+        let entry = entry?;
+        if let Some(epoch) = epoch_named(entry.file_name()) {
+            span = Some(with_epoch(span, epoch));
+        }
+    }
+    Ok(span)
+}
+
+/// Returns the epoch whose journal has this name, if one's has.
+fn epoch_named(name: &str) -> Option<u64> {
+    number(name.strip_suffix(".journal")?.as_bytes())
+}
+
+/// Returns the span with one epoch more.
+fn with_epoch(span: Option<Span>, epoch: u64) -> Span {
+    match span {
+        Some(Span { first, last }) => Span {
+            first: first.min(epoch),
+            last: last.max(epoch),
+        },
+        None => Span {
+            first: epoch,
+            last: epoch,
+        },
+    }
+}
+
 /// Returns the failure of a folder without a journal.
 fn nothing_in(host: &HostRuntime, folder: &str) -> Failure {
     Failure::at(
@@ -104,17 +96,6 @@ fn nothing_in(host: &HostRuntime, folder: &str) -> Failure {
         Whereabouts::Open,
         &MISSING,
     )
-}
-
-/// Returns the failure of an epoch's journal, told in these words.
-fn journal_failure(host: &HostRuntime, path: &str, fault: JournalFault, words: &str) -> Failure {
-    let fault = Fault::Journal(fault);
-    Failure::at(host.alloc(), fault, path, Whereabouts::Whole, &words)
-}
-
-/// Returns the failure of a file.
-fn failed(host: &HostRuntime, path: &str, error: &io::Error) -> Failure {
-    Failure::at(host.alloc(), Fault::File, path, Whereabouts::Open, error)
 }
 
 /// Makes an epoch's journal, if there is none. It is made beside its place and then renamed, so
@@ -155,6 +136,14 @@ fn create_at<P: Premise>(host: &HostRuntime, path: &str, header: &Header) -> Res
     }
 }
 
+/// Returns `true` if nothing has this path.
+pub(crate) fn is_missing(host: &HostRuntime, path: &str) -> bool {
+    match fs::symlink_metadata(host, path) {
+        Ok(_) => false,
+        Err(error) => error.kind() == io::ErrorKind::NotFound,
+    }
+}
+
 /// Returns what an epoch's journal says.
 ///
 /// [`Fault::File`], [`Fault::Journal`]: it isn't there, or can't be read.
@@ -178,4 +167,15 @@ pub(crate) fn look_into(
             Err(journal_failure(host, path, fault, words))
         }
     }
+}
+
+/// Returns the failure of a file.
+fn failed(host: &HostRuntime, path: &str, error: &io::Error) -> Failure {
+    Failure::at(host.alloc(), Fault::File, path, Whereabouts::Open, error)
+}
+
+/// Returns the failure of an epoch's journal, told in these words.
+fn journal_failure(host: &HostRuntime, path: &str, fault: JournalFault, words: &str) -> Failure {
+    let fault = Fault::Journal(fault);
+    Failure::at(host.alloc(), fault, path, Whereabouts::Whole, &words)
 }

@@ -106,29 +106,6 @@ pub enum Purpose {
 /// The words on a member's journal that is missing: another one would let it say things twice.
 const MISSING: &str = "no such file: `bracha init` makes one for a new member, and for no other";
 
-/// The failure of a member's journal that is missing.
-fn missing(alloc: Global, path: &str) -> Failure
-    ensures fault { result.fault ≡ ends.File }
-    ensures told { IfSome result.trouble (IsTold path.now (λ at. at ≡ whereabouts.Open) (λ _. ⊤)) }
-{
-    Failure::at(alloc, Fault::File, path, Whereabouts::Open, &MISSING)
-}
-
-/// Refuses a device or a pipe, which might be waited for or read without an end. A file is taken,
-/// and so is nothing at all, and a folder, which the system refuses. [`Fault::File`]: it is one.
-fn keep_to_files(rt: &HostRuntime, path: &str) -> Result<(), Failure>
-    ensures fault { IfErr result (λ failure. IsMeant ends.File failure.fault) }
-    ensures named { IfErr result (IsNamed path.now) }
-{
-    match fs::metadata(rt, path) {
-        Ok(known) if !known.is_file() && !known.is_dir() => {
-            let words = "no regular file";
-            Err(Failure::at(rt.alloc(), Fault::File, path, Whereabouts::Open, &words))
-        }
-        _ => Ok(()),
-    }
-}
-
 /// The file of a journal, as it is told of.
 #[derive(Drop)]
 pub struct Source<'a> {
@@ -183,26 +160,6 @@ pub fn open_disk<'a, P: Premise>(
     Ok((disk, Source { path, first_error }))
 }
 
-/// The disk in the file of a journal that is to be relied on: of which no sync failed since the
-/// machine was started.
-///
-/// [`Fault::Journal`] with [`JournalFault::Device`]: one did.
-pub fn open_good_disk<'a, P: Premise>(
-    rt: &HostRuntime,
-    path: &'a str,
-    purpose: Purpose,
-) -> Result<(MarkedDisk<P>, Source<'a>), Failure>
-    ensures as_it_began { IfOk result
-        (λ opened. file_state P.file (marked_file opened.0) ≡ at_rest P.file.start) }
-    ensures source { IfOk result (λ opened. opened.1.path.now ≡ path.now) }
-{
-    refuse_unsynced(rt, path)?;
-    let opened = open_disk::<P>(rt, path, purpose)?;
-    // Who had the file until now may have left the mark meanwhile.
-    refuse_unsynced(rt, path)?;
-    Ok(opened)
-}
-
 /// The disk in the file of a journal, which is a regular file.
 fn open_file<P: Premise>(
     rt: &HostRuntime,
@@ -234,6 +191,26 @@ fn open_file<P: Premise>(
     }
 }
 
+/// The disk in the file of a journal that is to be relied on: of which no sync failed since the
+/// machine was started.
+///
+/// [`Fault::Journal`] with [`JournalFault::Device`]: one did.
+pub fn open_good_disk<'a, P: Premise>(
+    rt: &HostRuntime,
+    path: &'a str,
+    purpose: Purpose,
+) -> Result<(MarkedDisk<P>, Source<'a>), Failure>
+    ensures as_it_began { IfOk result
+        (λ opened. file_state P.file (marked_file opened.0) ≡ at_rest P.file.start) }
+    ensures source { IfOk result (λ opened. opened.1.path.now ≡ path.now) }
+{
+    refuse_unsynced(rt, path)?;
+    let opened = open_disk::<P>(rt, path, purpose)?;
+    // Who had the file until now may have left the mark meanwhile.
+    refuse_unsynced(rt, path)?;
+    Ok(opened)
+}
+
 /// Makes the journal that the settings in the file name.
 pub fn init_file<P: Premise>(rt: &HostRuntime, path: &str) -> Result<u8, Failure> {
     let settings = read_settings(rt, path)?;
@@ -258,35 +235,6 @@ pub fn init_file<P: Premise>(rt: &HostRuntime, path: &str) -> Result<u8, Failure
 
 /// The most bytes of a file that are read for a second line: those of more than 2,700,000 records.
 const MOST: u64 = 1 << 24;
-
-/// Returns how many bytes of a journal's file of that length the second line of that fault is told
-/// from: where the header is wrong, it and one more; of a file that is too long to go through,
-/// these too where they tell whose it is. None where the fault isn't the file's, or a file that is
-/// too long goes wrong somewhere.
-fn needed(found: JournalFault, length: u64) -> Option<u64> {
-    match found {
-        JournalFault::BadHeader | JournalFault::OtherHeader | JournalFault::OldVersion => Some(25),
-        JournalFault::NotEmpty if length > MOST => Some(25),
-        JournalFault::BadRecord | JournalFault::CutShort if length > MOST => None,
-        JournalFault::NotEmpty | JournalFault::BadRecord | JournalFault::CutShort => Some(length),
-        JournalFault::Device | JournalFault::Memory | JournalFault::Stopped | JournalFault::Full =>
-            None,
-    }
-}
-
-/// The bytes of the file from which the second line of that fault is told, and how many it has;
-/// none where it is no regular file, or too long.
-fn read_needed(
-    rt: &HostRuntime,
-    path: &str,
-    found: JournalFault,
-) -> io::Result<Option<(Vec<u8>, u64)>> {
-    let known = fs::metadata(rt, path)?;
-    match needed(found, known.len()) {
-        Some(most) if known.is_file() => Ok(Some((read_unlocked(rt, path, most)?, known.len()))),
-        _ => Ok(None),
-    }
-}
 
 /// The failure of the journal in the file, in which that was found, where the one of this header
 /// was asked for, if one was: in the system's words where a call of the file failed, else by its
@@ -336,84 +284,6 @@ fn failure_by_bytes(
     }
 }
 
-/// The failure of a journal that was to be printed, counted or checked; the one of this header, if
-/// one was asked for. A write that failed is not the journal's.
-fn dump_failure(
-    rt: &HostRuntime,
-    source: &Source<'_>,
-    fault: DumpFault,
-    asked: Option<&Header>,
-) -> Failure
-    ensures fault { result.fault ≡ ends.Dump fault }
-    ensures named { IsNamed source.now.path.now result }
-{
-    match fault {
-        DumpFault::Journal(found) => {
-            failure_for(
-                rt,
-                source,
-                Fault::Dump(DumpFault::Journal(found)),
-                found,
-                asked,
-            )
-        }
-        other => Failure::from(Fault::Dump(other)),
-    }
-}
-
-/// The bytes of the file, or so many of them, which is opened for reading and writing as `run` does
-/// it. No lock is taken, and nothing written. A device has no length, so none of it is read; a
-/// journal's disk sees it so too.
-fn read_unlocked(rt: &HostRuntime, path: &str, most: u64) -> io::Result<Vec<u8>> {
-    let mut options = OpenOptions::new();
-    let file = options.read(true).write(true).open(rt, path)?;
-    let length = file.metadata()?.len();
-    let mut bytes = Vec::new(rt.alloc());
-    file.take(length.min(most)).read_to_end(&mut bytes)?;
-    Ok(bytes)
-}
-
-/// A copy in memory of the journal's file, which is a regular one.
-fn copied_disk(rt: &HostRuntime, journal: &str) -> Result<MemDisk, Failure>
-    ensures named { IfErr result (IsNamed journal.now) }
-{
-    keep_to_files(rt, journal)?;
-    let bytes = match read_unlocked(rt, journal, u64::MAX) {
-        Ok(bytes) => bytes,
-        Err(error) if error.kind() == io::ErrorKind::NotFound => {
-            return Err(missing(rt.alloc(), journal));
-        }
-        Err(error) => return Err(Failure::of_system(
-            rt.alloc(),
-            Fault::File,
-            journal,
-            Whereabouts::Open,
-            error,
-        )),
-    };
-    let mut disk = MemDisk::new(rt.alloc());
-    disk.write_at(0, &bytes).map_err(|_| Fault::Memory)?;
-    Ok(disk)
-}
-
-/// Prints how many records the journal on the disk has, behind what the settings say; or both as
-/// one object of JSON.
-fn print_records<D: Disk>(
-    rt: &HostRuntime,
-    settings: &Settings,
-    disk: &mut D,
-    json: bool,
-) -> Result<u8, DumpFault>
-    ensures untouched { IsUntouched D.Disk disk.old disk.new }
-{
-    let mut output = io::writer(rt);
-    if json {
-        print_check(rt.alloc(), settings, disk, &mut output)
-    } else {
-        check_journal(rt.alloc(), &settings.header, disk, &mut output)
-    }
-}
-
 /// Says what the settings in the file say, and how many records their journal has, if the member
 /// can run on it. As an object of JSON it is said once all of it is known.
 pub fn check_file(rt: &HostRuntime, path: &str, json: bool) -> Result<u8, Failure> {
@@ -443,22 +313,67 @@ pub fn check_file(rt: &HostRuntime, path: &str, json: bool) -> Result<u8, Failur
     }
 }
 
-/// Prints the journal on the disk, or only how many records it has; as lines, or as objects of
-/// JSON. However it ends, no byte of the disk's file is changed.
-fn dump_disk<D: Disk>(
+/// A copy in memory of the journal's file, which is a regular one.
+fn copied_disk(rt: &HostRuntime, journal: &str) -> Result<MemDisk, Failure>
+    ensures named { IfErr result (IsNamed journal.now) }
+{
+    keep_to_files(rt, journal)?;
+    let bytes = match read_unlocked(rt, journal, u64::MAX) {
+        Ok(bytes) => bytes,
+        Err(error) if error.kind() == io::ErrorKind::NotFound => {
+            return Err(missing(rt.alloc(), journal));
+        }
+        Err(error) => return Err(Failure::of_system(
+            rt.alloc(),
+            Fault::File,
+            journal,
+            Whereabouts::Open,
+            error,
+        )),
+    };
+    let mut disk = MemDisk::new(rt.alloc());
+    disk.write_at(0, &bytes).map_err(|_| Fault::Memory)?;
+    Ok(disk)
+}
+
+/// Refuses a device or a pipe, which might be waited for or read without an end. A file is taken,
+/// and so is nothing at all, and a folder, which the system refuses. [`Fault::File`]: it is one.
+fn keep_to_files(rt: &HostRuntime, path: &str) -> Result<(), Failure>
+    ensures fault { IfErr result (λ failure. IsMeant ends.File failure.fault) }
+    ensures named { IfErr result (IsNamed path.now) }
+{
+    match fs::metadata(rt, path) {
+        Ok(known) if !known.is_file() && !known.is_dir() => {
+            let words = "no regular file";
+            Err(Failure::at(rt.alloc(), Fault::File, path, Whereabouts::Open, &words))
+        }
+        _ => Ok(()),
+    }
+}
+
+/// The failure of a member's journal that is missing.
+fn missing(alloc: Global, path: &str) -> Failure
+    ensures fault { result.fault ≡ ends.File }
+    ensures told { IfSome result.trouble (IsTold path.now (λ at. at ≡ whereabouts.Open) (λ _. ⊤)) }
+{
+    Failure::at(alloc, Fault::File, path, Whereabouts::Open, &MISSING)
+}
+
+/// Prints how many records the journal on the disk has, behind what the settings say; or both as
+/// one object of JSON.
+fn print_records<D: Disk>(
     rt: &HostRuntime,
+    settings: &Settings,
     disk: &mut D,
-    count: bool,
     json: bool,
 ) -> Result<u8, DumpFault>
     ensures untouched { IsUntouched D.Disk disk.old disk.new }
 {
-    let mut output = BufWriter::new(rt.alloc(), io::writer(rt))?;
-    match (count, json) {
-        (false, false) => dump_lines(rt.alloc(), disk, &mut output),
-        (true, false) => dump_count(rt.alloc(), disk, &mut output),
-        (false, true) => dump_objects(rt.alloc(), disk, &mut output),
-        (true, true) => dump_count_object(rt.alloc(), disk, &mut output),
+    let mut output = io::writer(rt);
+    if json {
+        print_check(rt.alloc(), settings, disk, &mut output)
+    } else {
+        check_journal(rt.alloc(), &settings.header, disk, &mut output)
     }
 }
 
@@ -479,64 +394,52 @@ pub fn dump_file<P: Premise>(
     }
 }
 
-/// The failure of a file that should have been a journal of version 1, and is none.
-fn not_old(rt: &HostRuntime, fault: Fault, path: &str) -> Failure
-    ensures named { IsNamed path.now result }
-{
-    match read_unlocked(rt, path, 25) {
-        Ok(front) => not_old_failure(rt.alloc(), path, fault, &front),
-        Err(_) => Failure::about(rt.alloc(), fault, path),
-    }
-}
-
-/// Tells of a journal of version 1 in which that was found, by its bytes, which are read anew if
-/// they aren't too many.
-fn damaged_old(rt: &HostRuntime, path: &str, fault: Fault, found: MigrateFault) -> Failure
-    ensures fault { result.fault ≡ fault }
-    ensures named { IsNamed path.now result }
-{
-    match read_needed(rt, path, JournalFault::BadRecord) {
-        Ok(Some((bytes, _))) => old_failure(rt.alloc(), path, fault, found, &bytes),
-        _ => Failure::about(rt.alloc(), fault, path),
-    }
-}
-
-/// The failure of a journal that wasn't brought over from the old file to the new one.
-fn migration_failure(
+/// Prints the journal on the disk, or only how many records it has; as lines, or as objects of
+/// JSON. However it ends, no byte of the disk's file is changed.
+fn dump_disk<D: Disk>(
     rt: &HostRuntime,
-    old: &Source<'_>,
-    new: &Source<'_>,
-    fault: MigrationFault,
-) -> Failure {
-    let alloc = rt.alloc();
-    let MigrationFault::Migrate(why) = fault else {
-        return Failure::from(Fault::Migrate(fault));
-    };
-    let fault = Fault::Migrate(fault);
-    match why {
-        MigrateFault::NotEmpty => failure_for(rt, new, fault, JournalFault::NotEmpty, None),
-        MigrateFault::NotOld => not_old(rt, fault, old.path),
-        MigrateFault::OldDevice => failure_for(rt, old, fault, JournalFault::Device, None),
-        MigrateFault::NewDevice => failure_for(rt, new, fault, JournalFault::Device, None),
-        MigrateFault::OtherHeader | MigrateFault::BadRecord | MigrateFault::CutShort => {
-            damaged_old(rt, old.path, fault, why)
+    disk: &mut D,
+    count: bool,
+    json: bool,
+) -> Result<u8, DumpFault>
+    ensures untouched { IsUntouched D.Disk disk.old disk.new }
+{
+    let mut output = BufWriter::new(rt.alloc(), io::writer(rt))?;
+    match (count, json) {
+        (false, false) => dump_lines(rt.alloc(), disk, &mut output),
+        (true, false) => dump_count(rt.alloc(), disk, &mut output),
+        (false, true) => dump_objects(rt.alloc(), disk, &mut output),
+        (true, true) => dump_count_object(rt.alloc(), disk, &mut output),
+    }
+}
+
+/// The failure of a journal that was to be printed, counted or checked; the one of this header, if
+/// one was asked for. A write that failed is not the journal's.
+fn dump_failure(
+    rt: &HostRuntime,
+    source: &Source<'_>,
+    fault: DumpFault,
+    asked: Option<&Header>,
+) -> Failure
+    ensures fault { result.fault ≡ ends.Dump fault }
+    ensures named { IsNamed source.now.path.now result }
+{
+    match fault {
+        DumpFault::Journal(found) => {
+            failure_for(
+                rt,
+                source,
+                Fault::Dump(DumpFault::Journal(found)),
+                found,
+                asked,
+            )
         }
-        MigrateFault::Full => Failure::about(alloc, fault, new.path),
-        MigrateFault::Memory => Failure::from(Fault::Memory),
+        other => Failure::from(Fault::Dump(other)),
     }
 }
 
 /// The words on a new file that was made in vain and couldn't be removed.
 const LEFT: &str = "is no journal: remove it";
-
-/// The failure of a journal that wasn't brought over, once the file at `new` is gone, if it was
-/// made for it. Where it can't be removed that is told in place of the cause.
-fn unmade(rt: &HostRuntime, new: &str, made: bool, failure: Failure) -> Failure {
-    if !made || fs::remove_file(rt, new).is_ok() {
-        return failure;
-    }
-    Failure::at(rt.alloc(), failure.fault, new, Whereabouts::Whole, &LEFT)
-}
 
 /// Brings the journal of version 1 in the file at `old` over into the one at `new`, which is made,
 /// or is there and empty, and prints how many records it has. The old file is never written. After
@@ -566,41 +469,101 @@ pub fn migrate_file<P: Premise, Q: Premise>(
     }
 }
 
-/// The places for the pages of a simulation: the files at these paths, or the standard output where
-/// a path is `-`.
-#[derive(Drop)]
-struct PageFiles<'a> {
-    rt: &'a HostRuntime,
-    paths: PagePaths<'a>,
-    choice: Choice,
-    /// The name of the run.
-    name: &'a str,
-}
-
-impl<'a> Shelf for PageFiles<'a> {
-    type Fault = Failure;
-
-    fn put(&mut self, _alloc: Global, simulation: &Simulation) -> Result<(), Failure> {
-        check_size(self.rt.alloc(), simulation.script.size, self.choice)?;
-        let trace = fault_at(self.paths.trace, Fault::Trace);
-        let _no_rows = write_page(self.rt, simulation, Page::Trace, self.paths.trace, trace)?;
-        let chart = fault_at(self.paths.chart, Fault::Chart);
-        let page = Page::Chart(self.choice);
-        let rows = write_page(self.rt, simulation, page, self.paths.chart, chart)?;
-        warn_of_length(self.rt, rows, self.paths.chart);
-        let play = fault_at(self.paths.play, Fault::Page);
-        let page = Page::Play(self.name);
-        let _no_rows = write_page(self.rt, simulation, page, self.paths.play, play)?;
-        Ok(())
+/// The failure of a journal that wasn't brought over from the old file to the new one.
+fn migration_failure(
+    rt: &HostRuntime,
+    old: &Source<'_>,
+    new: &Source<'_>,
+    fault: MigrationFault,
+) -> Failure {
+    let alloc = rt.alloc();
+    let MigrationFault::Migrate(why) = fault else {
+        return Failure::from(Fault::Migrate(fault));
+    };
+    let fault = Fault::Migrate(fault);
+    match why {
+        MigrateFault::NotEmpty => failure_for(rt, new, fault, JournalFault::NotEmpty, None),
+        MigrateFault::NotOld => not_old(rt, fault, old.path),
+        MigrateFault::OldDevice => failure_for(rt, old, fault, JournalFault::Device, None),
+        MigrateFault::NewDevice => failure_for(rt, new, fault, JournalFault::Device, None),
+        MigrateFault::OtherHeader | MigrateFault::BadRecord | MigrateFault::CutShort => {
+            damaged_old(rt, old.path, fault, why)
+        }
+        MigrateFault::Full => Failure::about(alloc, fault, new.path),
+        MigrateFault::Memory => Failure::from(Fault::Memory),
     }
 }
 
-/// The path of a script: that of the standard input where it is `-`.
-fn script_path(path: &str) -> &str
-    ensures input { path.now ≡ codes "-" → result.now ≡ codes "/dev/stdin" }
-    ensures file { path.now ≢ codes "-" → result.now ≡ path.now }
+/// The failure of a file that should have been a journal of version 1, and is none.
+fn not_old(rt: &HostRuntime, fault: Fault, path: &str) -> Failure
+    ensures named { IsNamed path.now result }
 {
-    if path == "-" { "/dev/stdin" } else { path }
+    match read_unlocked(rt, path, 25) {
+        Ok(front) => not_old_failure(rt.alloc(), path, fault, &front),
+        Err(_) => Failure::about(rt.alloc(), fault, path),
+    }
+}
+
+/// Tells of a journal of version 1 in which that was found, by its bytes, which are read anew if
+/// they aren't too many.
+fn damaged_old(rt: &HostRuntime, path: &str, fault: Fault, found: MigrateFault) -> Failure
+    ensures fault { result.fault ≡ fault }
+    ensures named { IsNamed path.now result }
+{
+    match read_needed(rt, path, JournalFault::BadRecord) {
+        Ok(Some((bytes, _))) => old_failure(rt.alloc(), path, fault, found, &bytes),
+        _ => Failure::about(rt.alloc(), fault, path),
+    }
+}
+
+/// The bytes of the file from which the second line of that fault is told, and how many it has;
+/// none where it is no regular file, or too long.
+fn read_needed(
+    rt: &HostRuntime,
+    path: &str,
+    found: JournalFault,
+) -> io::Result<Option<(Vec<u8>, u64)>> {
+    let known = fs::metadata(rt, path)?;
+    match needed(found, known.len()) {
+        Some(most) if known.is_file() => Ok(Some((read_unlocked(rt, path, most)?, known.len()))),
+        _ => Ok(None),
+    }
+}
+
+/// Returns how many bytes of a journal's file of that length the second line of that fault is told
+/// from: where the header is wrong, it and one more; of a file that is too long to go through,
+/// these too where they tell whose it is. None where the fault isn't the file's, or a file that is
+/// too long goes wrong somewhere.
+fn needed(found: JournalFault, length: u64) -> Option<u64> {
+    match found {
+        JournalFault::BadHeader | JournalFault::OtherHeader | JournalFault::OldVersion => Some(25),
+        JournalFault::NotEmpty if length > MOST => Some(25),
+        JournalFault::BadRecord | JournalFault::CutShort if length > MOST => None,
+        JournalFault::NotEmpty | JournalFault::BadRecord | JournalFault::CutShort => Some(length),
+        JournalFault::Device | JournalFault::Memory | JournalFault::Stopped | JournalFault::Full =>
+            None,
+    }
+}
+
+/// The bytes of the file, or so many of them, which is opened for reading and writing as `run` does
+/// it. No lock is taken, and nothing written. A device has no length, so none of it is read; a
+/// journal's disk sees it so too.
+fn read_unlocked(rt: &HostRuntime, path: &str, most: u64) -> io::Result<Vec<u8>> {
+    let mut options = OpenOptions::new();
+    let file = options.read(true).write(true).open(rt, path)?;
+    let length = file.metadata()?.len();
+    let mut bytes = Vec::new(rt.alloc());
+    file.take(length.min(most)).read_to_end(&mut bytes)?;
+    Ok(bytes)
+}
+
+/// The failure of a journal that wasn't brought over, once the file at `new` is gone, if it was
+/// made for it. Where it can't be removed that is told in place of the cause.
+fn unmade(rt: &HostRuntime, new: &str, made: bool, failure: Failure) -> Failure {
+    if !made || fs::remove_file(rt, new).is_ok() {
+        return failure;
+    }
+    Failure::at(rt.alloc(), failure.fault, new, Whereabouts::Whole, &LEFT)
 }
 
 /// Runs the script in the file, or the one on the standard input where its path is `-`, and writes
@@ -634,5 +597,42 @@ pub fn simulate_file(
         Err(SimulationEnd::Script(fault)) => Err(script_failure(rt.alloc(), path, &text, fault)),
         Err(SimulationEnd::Page(failure)) => Err(failure),
         Err(SimulationEnd::Printing(fault)) => Err(Failure::from(Fault::from(fault))),
+    }
+}
+
+/// The path of a script: that of the standard input where it is `-`.
+fn script_path(path: &str) -> &str
+    ensures input { path.now ≡ codes "-" → result.now ≡ codes "/dev/stdin" }
+    ensures file { path.now ≢ codes "-" → result.now ≡ path.now }
+{
+    if path == "-" { "/dev/stdin" } else { path }
+}
+
+/// The places for the pages of a simulation: the files at these paths, or the standard output where
+/// a path is `-`.
+#[derive(Drop)]
+struct PageFiles<'a> {
+    rt: &'a HostRuntime,
+    paths: PagePaths<'a>,
+    choice: Choice,
+    /// The name of the run.
+    name: &'a str,
+}
+
+impl<'a> Shelf for PageFiles<'a> {
+    type Fault = Failure;
+
+    fn put(&mut self, _alloc: Global, simulation: &Simulation) -> Result<(), Failure> {
+        check_size(self.rt.alloc(), simulation.script.size, self.choice)?;
+        let trace = fault_at(self.paths.trace, Fault::Trace);
+        let _no_rows = write_page(self.rt, simulation, Page::Trace, self.paths.trace, trace)?;
+        let chart = fault_at(self.paths.chart, Fault::Chart);
+        let page = Page::Chart(self.choice);
+        let rows = write_page(self.rt, simulation, page, self.paths.chart, chart)?;
+        warn_of_length(self.rt, rows, self.paths.chart);
+        let play = fault_at(self.paths.play, Fault::Page);
+        let page = Page::Play(self.name);
+        let _no_rows = write_page(self.rt, simulation, page, self.paths.play, play)?;
+        Ok(())
     }
 }

@@ -36,16 +36,6 @@ pub enum Order {
     Other,
 }
 
-/// Returns `true` if the line begins with this word.
-fn begins(line: &[u8], word: &str) -> bool
-    ensures { result ≡ begins word.now line.now }
-{
-    match rest_of(line, word) {
-        Some(_) => true,
-        None => false,
-    }
-}
-
 /// Returns what the line is to be.
 pub fn order_of(line: &[u8]) -> Order
     ensures { result ≡ order_of line.now }
@@ -91,6 +81,16 @@ fn network_order(line: &[u8]) -> Order
         return Order::Fair;
     }
     Order::Other
+}
+
+/// Returns `true` if the line begins with this word.
+fn begins(line: &[u8], word: &str) -> bool
+    ensures { result ≡ begins word.now line.now }
+{
+    match rest_of(line, word) {
+        Some(_) => true,
+        None => false,
+    }
 }
 
 /// Returns which of the first five lines follows so many of them; none where all of them stand.

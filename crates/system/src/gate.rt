@@ -1,4 +1,4 @@
-//! The command `gateway`: a cluster over HTTP. Begin at `run_gateway`, last.
+//! The command `gateway`: a cluster over HTTP. Begin at `run_gateway`.
 
 ghost use Rattle.std.specs.Prelude.{◌≡◌, ◌↔◌, IfErr, IfOk, IfSome, IsTrue};
 ghost use Rattle.system.specs.Gates.{HasToken, IsLineOf, IsToken, IsTokenByte, IsUnopened, Opens, is_open_mode};
@@ -63,6 +63,35 @@ pub struct Gate<'a> {
     pub token: Option<&'a str>,
 }
 
+/// Serves the cluster of the client's settings over HTTP until SIGTERM or SIGINT comes, and prints
+/// a line once it listens. The status is 0. A signal that isn't blocked ends the process at once.
+///
+/// # Errors
+///
+/// - [`Fault::File`] if the settings or the token can't be read, or the system draws no random
+///   bytes;
+/// - [`Fault::Settings`] if the settings aren't a client's;
+/// - [`Fault::Address`] if the address to listen at isn't one;
+/// - [`Fault::Token`] if others may read or write the token's file, or it holds no token;
+/// - [`Fault::Run`] if the address can't be listened at;
+/// - [`Fault::Memory`] if memory or a thread was refused;
+/// - [`Fault::Stream`] if the line can't be printed.
+pub fn run_gateway<R: Caller>(rt: &R, host: &HostRuntime, gate: &Gate<'_>) -> Result<u8, Failure> {
+    let alloc = host.alloc();
+    let client = read_client(host, gate.file)?;
+    let listen = socket_address(&listen_address(alloc, gate.listen)?);
+    let token = token_of(host, gate.token)?;
+    let is_closed = token.is_empty() && !listen.ip().is_loopback();
+    let address = format!(in alloc; "{listen}").map_err(|_| Fault::Memory)?;
+    let opening = opening_of(host, &client, listen, token)?;
+    let portal = match open(rt, alloc, opening) {
+        Ok(portal) => portal,
+        Err(fault) => return Err(unopened(alloc, address.as_str(), fault)),
+    };
+    warn_of_closed(host, is_closed);
+    serve_on(rt, host, address.as_str(), &client, portal)
+}
+
 /// Returns the address to listen at.
 ///
 /// # Errors
@@ -83,55 +112,12 @@ fn listen_address(alloc: Global, text: Option<&str>) -> Result<Address, Failure>
     }
 }
 
-/// Returns `true` if a token may have the byte: a printable character of ASCII that isn't a blank.
-fn is_token_byte(byte: u8) -> bool
-    ensures { IsTrue result ↔ IsTokenByte byte }
-{
-    byte > 32 && byte < 127
-}
-
-/// Returns the text without the end of its line.
-fn without_end(text: &[u8]) -> &[u8]
-    ensures { IsLineOf text.now result.now }
-{
-    match text.strip_suffix(b"\n") {
-        Some(line) => line,
-        None => text,
+/// Returns the token that proposals must show; an empty one if none is needed.
+fn token_of(host: &HostRuntime, path: Option<&str>) -> Result<Vec<u8>, Failure> {
+    match path {
+        Some(path) => read_token(host, path),
+        None => Ok(Vec::new(host.alloc())),
     }
-}
-
-/// Returns `true` if the bytes are a token.
-fn is_token(bytes: &[u8]) -> bool
-    ensures { IsTrue result ↔ IsToken bytes.now }
-{
-    bytes.len() >= SHORTEST
-        && bytes.len() <= LONGEST
-        && bytes.iter().all(|byte| is_token_byte(*byte))
-}
-
-/// Returns the token of a text that is one line.
-fn token_in(text: &[u8]) -> Option<&[u8]>
-    ensures { IfSome result (λ token. HasToken text.now token.now) }
-{
-    let line = without_end(text);
-    if is_token(line) { Some(line) } else { None }
-}
-
-/// Returns `true` if a file of this mode may be read or written by others than its owner and its
-/// group.
-fn is_open_mode(mode: u32) -> bool
-    ensures { result ≡ is_open_mode mode }
-{
-    mode & 0o006 != 0
-}
-
-/// Returns the first bytes of the file, and if others may read or write it.
-fn read_secret(host: &HostRuntime, path: &str) -> io::Result<(Vec<u8>, bool)> {
-    let is_open = is_open_mode(fs::metadata(host, path)?.mode());
-    let file = File::open(host, path)?;
-    let mut bytes = Vec::new(host.alloc());
-    file.take(LONGEST as u64 + 2).read_to_end(&mut bytes)?;
-    Ok((bytes, is_open))
 }
 
 /// Returns the token of the file at the path.
@@ -160,6 +146,57 @@ fn read_token(host: &HostRuntime, path: &str) -> Result<Vec<u8>, Failure>
     }
 }
 
+/// Returns the first bytes of the file, and if others may read or write it.
+fn read_secret(host: &HostRuntime, path: &str) -> io::Result<(Vec<u8>, bool)> {
+    let is_open = is_open_mode(fs::metadata(host, path)?.mode());
+    let file = File::open(host, path)?;
+    let mut bytes = Vec::new(host.alloc());
+    file.take(LONGEST as u64 + 2).read_to_end(&mut bytes)?;
+    Ok((bytes, is_open))
+}
+
+/// Returns `true` if a file of this mode may be read or written by others than its owner and its
+/// group.
+fn is_open_mode(mode: u32) -> bool
+    ensures { result ≡ is_open_mode mode }
+{
+    mode & 0o006 != 0
+}
+
+/// Returns the token of a text that is one line.
+fn token_in(text: &[u8]) -> Option<&[u8]>
+    ensures { IfSome result (λ token. HasToken text.now token.now) }
+{
+    let line = without_end(text);
+    if is_token(line) { Some(line) } else { None }
+}
+
+/// Returns the text without the end of its line.
+fn without_end(text: &[u8]) -> &[u8]
+    ensures { IsLineOf text.now result.now }
+{
+    match text.strip_suffix(b"\n") {
+        Some(line) => line,
+        None => text,
+    }
+}
+
+/// Returns `true` if the bytes are a token.
+fn is_token(bytes: &[u8]) -> bool
+    ensures { IsTrue result ↔ IsToken bytes.now }
+{
+    bytes.len() >= SHORTEST
+        && bytes.len() <= LONGEST
+        && bytes.iter().all(|byte| is_token_byte(*byte))
+}
+
+/// Returns `true` if a token may have the byte: a printable character of ASCII that isn't a blank.
+fn is_token_byte(byte: u8) -> bool
+    ensures { IsTrue result ↔ IsTokenByte byte }
+{
+    byte > 32 && byte < 127
+}
+
 /// Returns a copy of the token of the file at the path.
 fn owned(alloc: Global, path: &str, token: &[u8]) -> Result<Vec<u8>, Failure>
     ensures { IfErr result (IsNamed path.now) }
@@ -168,37 +205,6 @@ fn owned(alloc: Global, path: &str, token: &[u8]) -> Result<Vec<u8>, Failure>
     match copy.extend_from_slice(token) {
         Ok(()) => Ok(copy),
         Err(_) => Err(Failure::about(alloc, Fault::Memory, path)),
-    }
-}
-
-/// Returns the token that proposals must show; an empty one if none is needed.
-fn token_of(host: &HostRuntime, path: Option<&str>) -> Result<Vec<u8>, Failure> {
-    match path {
-        Some(path) => read_token(host, path),
-        None => Ok(Vec::new(host.alloc())),
-    }
-}
-
-/// Returns the failure of the system's random bytes.
-fn no_chance(alloc: Global, error: io::Error) -> Failure {
-    let thing = "the system's random bytes";
-    Failure::of_system(alloc, Fault::File, thing, Whereabouts::Read, error)
-}
-
-/// Returns a number that the system draws.
-fn drawn_number(host: &HostRuntime) -> Result<u64, Failure> {
-    let mut bytes = [0; 8];
-    match host.fill_bytes(&mut bytes) {
-        Ok(()) => Ok(u64::from_le_bytes(bytes)),
-        Err(error) => Err(no_chance(host.alloc(), error)),
-    }
-}
-
-/// Returns keys that the system draws.
-fn drawn_keys(host: &HostRuntime) -> Result<RandomState, Failure> {
-    match RandomState::new(host) {
-        Ok(keys) => Ok(keys),
-        Err(error) => Err(no_chance(host.alloc(), error)),
     }
 }
 
@@ -224,6 +230,29 @@ fn opening_of(
     })
 }
 
+/// Returns a number that the system draws.
+fn drawn_number(host: &HostRuntime) -> Result<u64, Failure> {
+    let mut bytes = [0; 8];
+    match host.fill_bytes(&mut bytes) {
+        Ok(()) => Ok(u64::from_le_bytes(bytes)),
+        Err(error) => Err(no_chance(host.alloc(), error)),
+    }
+}
+
+/// Returns keys that the system draws.
+fn drawn_keys(host: &HostRuntime) -> Result<RandomState, Failure> {
+    match RandomState::new(host) {
+        Ok(keys) => Ok(keys),
+        Err(error) => Err(no_chance(host.alloc(), error)),
+    }
+}
+
+/// Returns the failure of the system's random bytes.
+fn no_chance(alloc: Global, error: io::Error) -> Failure {
+    let thing = "the system's random bytes";
+    Failure::of_system(alloc, Fault::File, thing, Whereabouts::Read, error)
+}
+
 /// Returns the failure of a gateway that doesn't start at this address.
 fn unopened(alloc: Global, address: &str, fault: OpeningFault) -> Failure
     ensures { IsUnopened result.fault }
@@ -241,31 +270,10 @@ fn unopened(alloc: Global, address: &str, fault: OpeningFault) -> Failure
     }
 }
 
-/// Prints that the gateway of this cluster listens at the address.
-fn print_ready(host: &HostRuntime, address: &str, client: &ClientSettings) -> Result<(), Failure> {
-    let (cluster, n) = (client.cluster, client.size.n());
-    match println!(host; "gateway {address} cluster {cluster} members {n}") {
-        Ok(()) => Ok(()),
-        Err(error) => Err(Failure::from(Fault::from(error))),
-    }
-}
-
 /// Says on standard error that no proposals are taken, if that is so.
 fn warn_of_closed(host: &HostRuntime, is_closed: bool) {
     if is_closed {
         let _unsaid = eprintln!(host; "{CLOSED}");
-    }
-}
-
-/// Returns once SIGTERM or SIGINT waits, at most half a second late. Where neither is blocked, one
-/// ends the process.
-fn wait_for_signal<R: Caller>(rt: &R, host: &HostRuntime) {
-    let blocked = blocks_signals(host);
-    for _ in 0..u64::MAX {
-        if blocked && is_called_off(host) {
-            return;
-        }
-        thread::sleep(rt, Duration::from_millis(500));
     }
 }
 
@@ -286,31 +294,23 @@ fn serve_on<R: Caller>(
     Ok(0)
 }
 
-/// Serves the cluster of the client's settings over HTTP until SIGTERM or SIGINT comes, and prints
-/// a line once it listens. The status is 0. A signal that isn't blocked ends the process at once.
-///
-/// # Errors
-///
-/// - [`Fault::File`] if the settings or the token can't be read, or the system draws no random
-///   bytes;
-/// - [`Fault::Settings`] if the settings aren't a client's;
-/// - [`Fault::Address`] if the address to listen at isn't one;
-/// - [`Fault::Token`] if others may read or write the token's file, or it holds no token;
-/// - [`Fault::Run`] if the address can't be listened at;
-/// - [`Fault::Memory`] if memory or a thread was refused;
-/// - [`Fault::Stream`] if the line can't be printed.
-pub fn run_gateway<R: Caller>(rt: &R, host: &HostRuntime, gate: &Gate<'_>) -> Result<u8, Failure> {
-    let alloc = host.alloc();
-    let client = read_client(host, gate.file)?;
-    let listen = socket_address(&listen_address(alloc, gate.listen)?);
-    let token = token_of(host, gate.token)?;
-    let is_closed = token.is_empty() && !listen.ip().is_loopback();
-    let address = format!(in alloc; "{listen}").map_err(|_| Fault::Memory)?;
-    let opening = opening_of(host, &client, listen, token)?;
-    let portal = match open(rt, alloc, opening) {
-        Ok(portal) => portal,
-        Err(fault) => return Err(unopened(alloc, address.as_str(), fault)),
-    };
-    warn_of_closed(host, is_closed);
-    serve_on(rt, host, address.as_str(), &client, portal)
+/// Prints that the gateway of this cluster listens at the address.
+fn print_ready(host: &HostRuntime, address: &str, client: &ClientSettings) -> Result<(), Failure> {
+    let (cluster, n) = (client.cluster, client.size.n());
+    match println!(host; "gateway {address} cluster {cluster} members {n}") {
+        Ok(()) => Ok(()),
+        Err(error) => Err(Failure::from(Fault::from(error))),
+    }
+}
+
+/// Returns once SIGTERM or SIGINT waits, at most half a second late. Where neither is blocked, one
+/// ends the process.
+fn wait_for_signal<R: Caller>(rt: &R, host: &HostRuntime) {
+    let blocked = blocks_signals(host);
+    for _ in 0..u64::MAX {
+        if blocked && is_called_off(host) {
+            return;
+        }
+        thread::sleep(rt, Duration::from_millis(500));
+    }
 }

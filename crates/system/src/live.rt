@@ -61,59 +61,6 @@ pub(crate) struct Console<'a> {
 }
 
 impl<'a> Console<'a> {
-    /// Returns where the standard input has come to its end.
-    fn drain(&self) -> Result<(), RunFault> {
-        let mut input = self.host.reader();
-        let mut piece = [0; 512];
-        for _ in 0..u64::MAX {
-            match input.read(&mut piece) {
-                Ok(0) => return Ok(()),
-                Ok(_) => {}
-                Err(_) => return Err(RunFault::Stream),
-            }
-        }
-        Ok(())
-    }
-
-    /// Returns `true` if the member stays and is stopped.
-    fn is_stopped(&self) -> bool {
-        self.stay && self.stopped.load(Ordering::SeqCst)
-    }
-
-    /// Returns how the input ended that a thread reads; none where it hasn't, or none does.
-    fn input_end(&self) -> Option<Result<(), RunFault>> {
-        match &self.input {
-            Some(input) if input.has_failed() => Some(Err(RunFault::Stream)),
-            Some(input) if input.has_ended() => Some(Ok(())),
-            _ => None,
-        }
-    }
-
-    /// Why the member can't listen at this address: the entry of the settings to look at, where it
-    /// isn't this host's; else what the system said.
-    fn unheard_words(&self, address: SocketAddr, error: &io::Error) -> Result<String, AllocError> {
-        let alloc = self.host.alloc();
-        if error.kind() != io::ErrorKind::AddrNotAvailable {
-            return format!(in alloc; "{error}");
-        }
-        let desk = socket_address(&self.settings.desk);
-        if address.ip() == desk.ip() && address.port() == desk.port() {
-            return foreign_words(alloc, Door::Desk);
-        }
-        foreign_words(alloc, own_door(self.settings))
-    }
-
-    /// Returns `true` if the journal's path names another file than the one that is open, or none.
-    /// Then that is told.
-    fn is_without_journal(&mut self) -> bool {
-        if !self.journal.is_replaced(self.host) {
-            return false;
-        }
-        let (alloc, path) = (self.host.alloc(), self.journal.path());
-        self.trouble = trouble_of(alloc, path, Whereabouts::Whole, &GONE);
-        true
-    }
-
     /// Returns what ends the member in this quarter of a second, if something does: the end of the
     /// input, that it is stopped, or, at the first of four, a signal or a journal that is gone.
     pub(crate) fn end_at(&mut self, turn: u64) -> Option<Result<(), RunFault>> {
@@ -133,6 +80,59 @@ impl<'a> Console<'a> {
             return Some(Err(RunFault::Stopped));
         }
         None
+    }
+
+    /// Returns how the input ended that a thread reads; none where it hasn't, or none does.
+    fn input_end(&self) -> Option<Result<(), RunFault>> {
+        match &self.input {
+            Some(input) if input.has_failed() => Some(Err(RunFault::Stream)),
+            Some(input) if input.has_ended() => Some(Ok(())),
+            _ => None,
+        }
+    }
+
+    /// Returns `true` if the member stays and is stopped.
+    fn is_stopped(&self) -> bool {
+        self.stay && self.stopped.load(Ordering::SeqCst)
+    }
+
+    /// Returns `true` if the journal's path names another file than the one that is open, or none.
+    /// Then that is told.
+    fn is_without_journal(&mut self) -> bool {
+        if !self.journal.is_replaced(self.host) {
+            return false;
+        }
+        let (alloc, path) = (self.host.alloc(), self.journal.path());
+        self.trouble = trouble_of(alloc, path, Whereabouts::Whole, &GONE);
+        true
+    }
+
+    /// Returns where the standard input has come to its end.
+    fn drain(&self) -> Result<(), RunFault> {
+        let mut input = self.host.reader();
+        let mut piece = [0; 512];
+        for _ in 0..u64::MAX {
+            match input.read(&mut piece) {
+                Ok(0) => return Ok(()),
+                Ok(_) => {}
+                Err(_) => return Err(RunFault::Stream),
+            }
+        }
+        Ok(())
+    }
+
+    /// Why the member can't listen at this address: the entry of the settings to look at, where it
+    /// isn't this host's; else what the system said.
+    fn unheard_words(&self, address: SocketAddr, error: &io::Error) -> Result<String, AllocError> {
+        let alloc = self.host.alloc();
+        if error.kind() != io::ErrorKind::AddrNotAvailable {
+            return format!(in alloc; "{error}");
+        }
+        let desk = socket_address(&self.settings.desk);
+        if address.ip() == desk.ip() && address.port() == desk.port() {
+            return foreign_words(alloc, Door::Desk);
+        }
+        foreign_words(alloc, own_door(self.settings))
     }
 
     /// Returns once the member is stopped, or the input has ended that a thread reads, at most a
@@ -185,93 +185,6 @@ impl<'a> Operator for Console<'a> {
     }
 }
 
-/// Returns what can be told of the journal of a member that is stopped.
-fn trouble_of_stop(alloc: Global, source: &Source<'_>) -> Option<Trouble>
-    ensures { IfSome result (λ trouble. string_bytes trouble.thing ≡ source.now.path.now) }
-{
-    match source.error() {
-        Some(error) => trouble_of(alloc, source.path, Whereabouts::Whole, &error),
-        None => {
-            let words = "memory was refused, or it is full";
-            trouble_of(alloc, source.path, Whereabouts::Whole, &words)
-        }
-    }
-}
-
-/// Returns what can be told of a member that is stopped: what the console was told, or else why its
-/// journal ended.
-pub(crate) fn told_of_stop(
-    alloc: Global,
-    source: &Source<'_>,
-    told: Option<Trouble>,
-) -> Option<Trouble>
-    ensures told { IsSome told → result ≡ told }
-    ensures stopped { told ≡ None →
-        IfSome result (λ trouble. string_bytes trouble.thing ≡ source.now.path.now) }
-{
-    match told {
-        Some(told) => Some(told),
-        None => trouble_of_stop(alloc, source),
-    }
-}
-
-/// Returns what can be told of how a run ended: where the member was forgotten, of its journal,
-/// which is put aside; where it is stopped what the console was told, or else why; else what the
-/// console was told.
-fn told_at_end(
-    host: &HostRuntime,
-    run: &Result<(), RunFault>,
-    source: &Source<'_>,
-    member: u8,
-    told: Option<Trouble>,
-) -> Option<Trouble>
-    ensures stopped { run.now ≡ Err ends_of_run.Stopped → told ≡ None →
-        IfSome result (λ trouble. string_bytes trouble.thing ≡ source.now.path.now) }
-    ensures gone { run.now ≡ Err ends_of_run.Stopped → IsSome told → result ≡ told }
-    ensures other { run.now ≢ Err ends_of_run.Stopped → run.now ≢ Err ends_of_run.Forgotten →
-        result ≡ told }
-{
-    match run {
-        Err(RunFault::Stopped) => told_of_stop(host.alloc(), source, told),
-        Err(RunFault::Forgotten) => put_aside(host, source.path, member),
-        Ok(()) => told,
-        Err(RunFault::Listen | RunFault::Memory | RunFault::Stream | RunFault::Torn) => told,
-    }
-}
-
-/// Returns how a run ended: with status 0, or a fault and what can be told of it.
-fn ended(run: Result<(), RunFault>, trouble: Option<Trouble>) -> Result<u8, Failure>
-    ensures ok { IfOk run (λ _. result ≡ Ok 0) }
-    ensures fault { IfErr run
-        (λ fault. result ≡ Err (record { fault = ends.Run fault; trouble = trouble })) }
-{
-    match run {
-        Ok(()) => Ok(0),
-        Err(fault) => {
-            let fault = Fault::Run(fault);
-            Err(Failure { fault, trouble })
-        }
-    }
-}
-
-/// Says on the standard error that a link's sender is anybody's word.
-fn warn_of_strangers(host: &HostRuntime) {
-    let mut errors = host.stderr();
-    let _unsaid = errors.write_all(
-        b"bracha: --any-host is unsafe: any host may speak for any member\n",
-    );
-}
-
-/// A thread that reads the standard input, where a member would else wait for that input itself;
-/// none where the system refuses it.
-fn input_of<R: Machine>(rt: &R, host: &HostRuntime, stay: bool) -> Option<Arc<Input>> {
-    if stay {
-        None
-    } else {
-        read_aside(rt, host.alloc(), host.stdin())
-    }
-}
-
 /// The options of the command `run`.
 #[derive(Clone, Copy, Debug, PartialEq, Eq)]
 pub struct RunOptions {
@@ -281,14 +194,6 @@ pub struct RunOptions {
     pub log: LogForm,
     /// Any host may speak for any member.
     pub any_host: bool,
-}
-
-/// The number of files that a process may open, and how many of them may be clients and followers.
-#[derive(Clone, Copy)]
-struct FileLimits {
-    files: Option<u64>,
-    clients: u8,
-    followers: u16,
 }
 
 /// Runs the member of the settings in the file until the standard input ends; where it stays, until
@@ -315,6 +220,37 @@ pub fn run_file<R: Machine, P: Premise + Send>(
     run_settings::<R, P>(rt, host, &settings, options)
 }
 
+/// Runs the member of these settings, as `run_file` says.
+fn run_settings<'a, R: Machine, P: Premise + Send>(
+    rt: &R,
+    host: &'a HostRuntime,
+    settings: &'a Settings,
+    options: RunOptions,
+) -> Result<u8, Failure> {
+    let size = settings.header.size();
+    let files = most_files(host);
+    keep_from_starving(host, files, size.wait())?;
+    let limits = FileLimits {
+        files,
+        clients: clients_within(files, size.n()),
+        followers: followers_within(files, size.n()),
+    };
+    match &settings.epochs {
+        Some(folder) => {
+            let order = ChainOrder {
+                settings,
+                folder: folder.as_str(),
+                form: options.log,
+                any_host: options.any_host,
+                clients: limits.clients,
+                followers: limits.followers,
+            };
+            run_epochs(rt, host, order, options.stay)
+        }
+        None => run_alone::<R, P>(rt, host, settings, options, limits),
+    }
+}
+
 /// Refuses to run with too few open files for a member that needs links with so many.
 ///
 /// [`Fault::File`]: there are fewer.
@@ -327,30 +263,6 @@ fn keep_from_starving(host: &HostRuntime, limit: Option<u64>, needed: u8) -> Res
     let alloc = host.alloc();
     let words = starved_words(alloc, limit, needed).map_err(|_| Fault::Memory)?;
     Err(Failure::at(alloc, Fault::File, "open files", Whereabouts::Whole, &words))
-}
-
-/// Opens the member of that header on the disk of its journal. A fault hands the disk back beside
-/// what is told of it: no byte of the file was changed, and a crash left nothing of it but what it
-/// might have left before.
-pub(crate) fn open_member<D: Disk>(
-    host: &HostRuntime,
-    source: &Source<'_>,
-    disk: D,
-    header: &Header,
-) -> Result<Member<D>, (Failure, D)>
-    ensures opened { IfOk result (λ member. IsOpened D.Disk disk header.now member) }
-    ensures restart { IfOk result (λ member. IsARestart D.Disk disk header.now member) }
-    ensures handed_back { IfErr result
-        (λ refused. (why : JournalFault) × (refused.0.fault ≡ of_journal why)
-        × IsNotOpened D.Disk disk header.now why refused.1) }
-{
-    match Member::adopt(host.alloc(), disk, header) {
-        Ok(member) => Ok(member),
-        Err((why, disk)) => {
-            let failure = failure_for(host, source, Fault::from(why), why, Some(header));
-            Err((failure, disk))
-        }
-    }
 }
 
 /// Runs the member of a chain, as `run_file` says.
@@ -384,12 +296,56 @@ fn run_epochs<R: Machine>(
     ended
 }
 
-/// A member that was opened, the file of its journal, and where it is to listen.
-#[derive(Drop)]
-struct Opened<'a, D: Disk + Drop> {
-    member: Member<D>,
-    source: Source<'a>,
-    addresses: Addresses,
+/// Runs the member of these settings, which is of no chain, as `run_file` says.
+fn run_alone<'a, R: Machine, P: Premise + Send>(
+    rt: &R,
+    host: &'a HostRuntime,
+    settings: &'a Settings,
+    options: RunOptions,
+    limits: FileLimits,
+) -> Result<u8, Failure> {
+    let addresses = addresses_of(
+        host.alloc(),
+        settings,
+        options.any_host,
+        limits.clients,
+        limits.followers,
+    )
+    .map_err(|_| Fault::Memory)?;
+    refuse_forgotten(host, settings.journal.as_str(), settings.header.me())?;
+    let (disk, source) = open_good_disk::<P>(host, settings.journal.as_str(), Purpose::Run)?;
+    remove_old_mark(host, source.path);
+    let member = match open_member(host, &source, disk, &settings.header) {
+        Ok(member) => member,
+        Err((failure, _)) => return Err(failure),
+    };
+    if options.any_host {
+        warn_of_strangers(host);
+    }
+    warn_of_files(host, limits.files, settings.header.size().n());
+    let addresses = with_socket(host, addresses, settings)?;
+    let opened = Opened {
+        member,
+        source,
+        addresses,
+    };
+    run_opened(rt, host, settings, options, opened)
+}
+
+/// The number of files that a process may open, and how many of them may be clients and followers.
+#[derive(Clone, Copy)]
+struct FileLimits {
+    files: Option<u64>,
+    clients: u8,
+    followers: u16,
+}
+
+/// Says on the standard error that a link's sender is anybody's word.
+fn warn_of_strangers(host: &HostRuntime) {
+    let mut errors = host.stderr();
+    let _unsaid = errors.write_all(
+        b"bracha: --any-host is unsafe: any host may speak for any member\n",
+    );
 }
 
 /// Runs a member that was just opened over its disk, to its end.
@@ -446,69 +402,113 @@ fn run_opened<'a, D: Disk + Drop + Send, R: Machine>(
     ended(run, trouble)
 }
 
-/// Runs the member of these settings, which is of no chain, as `run_file` says.
-fn run_alone<'a, R: Machine, P: Premise + Send>(
-    rt: &R,
-    host: &'a HostRuntime,
-    settings: &'a Settings,
-    options: RunOptions,
-    limits: FileLimits,
-) -> Result<u8, Failure> {
-    let addresses = addresses_of(
-        host.alloc(),
-        settings,
-        options.any_host,
-        limits.clients,
-        limits.followers,
-    )
-    .map_err(|_| Fault::Memory)?;
-    refuse_forgotten(host, settings.journal.as_str(), settings.header.me())?;
-    let (disk, source) = open_good_disk::<P>(host, settings.journal.as_str(), Purpose::Run)?;
-    remove_old_mark(host, source.path);
-    let member = match open_member(host, &source, disk, &settings.header) {
-        Ok(member) => member,
-        Err((failure, _)) => return Err(failure),
-    };
-    if options.any_host {
-        warn_of_strangers(host);
-    }
-    warn_of_files(host, limits.files, settings.header.size().n());
-    let addresses = with_socket(host, addresses, settings)?;
-    let opened = Opened {
-        member,
-        source,
-        addresses,
-    };
-    run_opened(rt, host, settings, options, opened)
+/// A member that was opened, the file of its journal, and where it is to listen.
+#[derive(Drop)]
+struct Opened<'a, D: Disk + Drop> {
+    member: Member<D>,
+    source: Source<'a>,
+    addresses: Addresses,
 }
 
-/// Runs the member of these settings, as `run_file` says.
-fn run_settings<'a, R: Machine, P: Premise + Send>(
-    rt: &R,
-    host: &'a HostRuntime,
-    settings: &'a Settings,
-    options: RunOptions,
-) -> Result<u8, Failure> {
-    let size = settings.header.size();
-    let files = most_files(host);
-    keep_from_starving(host, files, size.wait())?;
-    let limits = FileLimits {
-        files,
-        clients: clients_within(files, size.n()),
-        followers: followers_within(files, size.n()),
-    };
-    match &settings.epochs {
-        Some(folder) => {
-            let order = ChainOrder {
-                settings,
-                folder: folder.as_str(),
-                form: options.log,
-                any_host: options.any_host,
-                clients: limits.clients,
-                followers: limits.followers,
-            };
-            run_epochs(rt, host, order, options.stay)
+/// A thread that reads the standard input, where a member would else wait for that input itself;
+/// none where the system refuses it.
+fn input_of<R: Machine>(rt: &R, host: &HostRuntime, stay: bool) -> Option<Arc<Input>> {
+    if stay {
+        None
+    } else {
+        read_aside(rt, host.alloc(), host.stdin())
+    }
+}
+
+/// Returns what can be told of how a run ended: where the member was forgotten, of its journal,
+/// which is put aside; where it is stopped what the console was told, or else why; else what the
+/// console was told.
+fn told_at_end(
+    host: &HostRuntime,
+    run: &Result<(), RunFault>,
+    source: &Source<'_>,
+    member: u8,
+    told: Option<Trouble>,
+) -> Option<Trouble>
+    ensures stopped { run.now ≡ Err ends_of_run.Stopped → told ≡ None →
+        IfSome result (λ trouble. string_bytes trouble.thing ≡ source.now.path.now) }
+    ensures gone { run.now ≡ Err ends_of_run.Stopped → IsSome told → result ≡ told }
+    ensures other { run.now ≢ Err ends_of_run.Stopped → run.now ≢ Err ends_of_run.Forgotten →
+        result ≡ told }
+{
+    match run {
+        Err(RunFault::Stopped) => told_of_stop(host.alloc(), source, told),
+        Err(RunFault::Forgotten) => put_aside(host, source.path, member),
+        Ok(()) => told,
+        Err(RunFault::Listen | RunFault::Memory | RunFault::Stream | RunFault::Torn) => told,
+    }
+}
+
+/// Returns how a run ended: with status 0, or a fault and what can be told of it.
+fn ended(run: Result<(), RunFault>, trouble: Option<Trouble>) -> Result<u8, Failure>
+    ensures ok { IfOk run (λ _. result ≡ Ok 0) }
+    ensures fault { IfErr run
+        (λ fault. result ≡ Err (record { fault = ends.Run fault; trouble = trouble })) }
+{
+    match run {
+        Ok(()) => Ok(0),
+        Err(fault) => {
+            let fault = Fault::Run(fault);
+            Err(Failure { fault, trouble })
         }
-        None => run_alone::<R, P>(rt, host, settings, options, limits),
+    }
+}
+
+/// Returns what can be told of a member that is stopped: what the console was told, or else why its
+/// journal ended.
+pub(crate) fn told_of_stop(
+    alloc: Global,
+    source: &Source<'_>,
+    told: Option<Trouble>,
+) -> Option<Trouble>
+    ensures told { IsSome told → result ≡ told }
+    ensures stopped { told ≡ None →
+        IfSome result (λ trouble. string_bytes trouble.thing ≡ source.now.path.now) }
+{
+    match told {
+        Some(told) => Some(told),
+        None => trouble_of_stop(alloc, source),
+    }
+}
+
+/// Returns what can be told of the journal of a member that is stopped.
+fn trouble_of_stop(alloc: Global, source: &Source<'_>) -> Option<Trouble>
+    ensures { IfSome result (λ trouble. string_bytes trouble.thing ≡ source.now.path.now) }
+{
+    match source.error() {
+        Some(error) => trouble_of(alloc, source.path, Whereabouts::Whole, &error),
+        None => {
+            let words = "memory was refused, or it is full";
+            trouble_of(alloc, source.path, Whereabouts::Whole, &words)
+        }
+    }
+}
+
+/// Opens the member of that header on the disk of its journal. A fault hands the disk back beside
+/// what is told of it: no byte of the file was changed, and a crash left nothing of it but what it
+/// might have left before.
+pub(crate) fn open_member<D: Disk>(
+    host: &HostRuntime,
+    source: &Source<'_>,
+    disk: D,
+    header: &Header,
+) -> Result<Member<D>, (Failure, D)>
+    ensures opened { IfOk result (λ member. IsOpened D.Disk disk header.now member) }
+    ensures restart { IfOk result (λ member. IsARestart D.Disk disk header.now member) }
+    ensures handed_back { IfErr result
+        (λ refused. (why : JournalFault) × (refused.0.fault ≡ of_journal why)
+        × IsNotOpened D.Disk disk header.now why refused.1) }
+{
+    match Member::adopt(host.alloc(), disk, header) {
+        Ok(member) => Ok(member),
+        Err((why, disk)) => {
+            let failure = failure_for(host, source, Fault::from(why), why, Some(header));
+            Err((failure, disk))
+        }
     }
 }

@@ -44,18 +44,6 @@ pub fn log_form(log: bool, log_json: bool) -> LogForm
     }
 }
 
-/// Returns what stands behind an event in its line: what the system said of the journal's file if
-/// that is known.
-fn device_words(alloc: Global, device: Option<&str>) -> Result<String, AllocError>
-    ensures { IfOk result
-        (λ words. string_bytes words ≡ device_text (option_map (λ text. text.now) device.entry)) }
-{
-    match device {
-        Some(text) => format!(in alloc; " device: {text}"),
-        None => Ok(String::new(alloc)),
-    }
-}
-
 /// Returns the line of an event, with what the system said of the journal's file if that is known.
 pub fn bare_line(
     alloc: Global,
@@ -68,6 +56,18 @@ pub fn bare_line(
 {
     let words = device_words(alloc, device)?;
     format!(in alloc; "{event}{words}\n")
+}
+
+/// Returns what stands behind an event in its line: what the system said of the journal's file if
+/// that is known.
+fn device_words(alloc: Global, device: Option<&str>) -> Result<String, AllocError>
+    ensures { IfOk result
+        (λ words. string_bytes words ≡ device_text (option_map (λ text. text.now) device.entry)) }
+{
+    match device {
+        Some(text) => format!(in alloc; " device: {text}"),
+        None => Ok(String::new(alloc)),
+    }
 }
 
 /// Returns the same line with the time before it.
@@ -83,6 +83,77 @@ pub fn timed_line(
 {
     let line = bare_line(alloc, event, device)?;
     format!(in alloc; "{time} {line}")
+}
+
+/// A log on the standard error: a line for each event, by one write, if lines are wanted. That the
+/// member is stopped is told in any case, with what the system said if a call of its journal's file
+/// failed, and is noted.
+#[derive(Drop)]
+pub struct ErrorLog<'a, R: Clock> {
+    /// The clock that tells the time of a line when it is printed.
+    pub clock: &'a R,
+    /// Memory for lines.
+    pub alloc: Global,
+    /// The stream to which lines go.
+    pub errors: Stderr,
+    /// The form in which events are told.
+    pub form: LogForm,
+    /// Set once the member is stopped.
+    pub stopped: &'a AtomicBool,
+    /// The place for the system's error at the first call of the journal's file that fails.
+    pub first_error: Option<Arc<FirstError>>,
+    /// The epoch of the member, if it is one of a chain.
+    pub epoch: Option<u64>,
+}
+
+impl<R: Clock> ErrorLog<'_, R> {
+    /// Prints that the member is stopped, and why if that is known.
+    fn print_stop(&mut self) -> io::Result<()> {
+        let Some(error) = first_error_in(&self.first_error) else {
+            return self.print(&LogEvent::Stopped, None);
+        };
+        let device = format!(in self.alloc; "{error}")?;
+        self.print(&LogEvent::Stopped, Some(device.as_str()))
+    }
+
+    /// Prints an event, with what the system said of the journal's file if that is given.
+    fn print(&mut self, event: &LogEvent, device: Option<&str>) -> io::Result<()> {
+        let time = match self.form {
+            LogForm::Silent => None,
+            LogForm::Lines | LogForm::Objects => now_text(self.clock, self.alloc),
+        };
+        let time = match &time {
+            Some(text) => Some(text.as_str()),
+            None => None,
+        };
+        match self.form {
+            LogForm::Silent => {
+                let line = bare_line(self.alloc, event, device)?;
+                self.errors.write_all(line.as_bytes())
+            }
+            LogForm::Lines => {
+                let time = with_epoch(self.alloc, time.unwrap_or("-"), self.epoch)?;
+                let line = timed_line(self.alloc, time.as_str(), event, device)?;
+                self.errors.write_all(line.as_bytes())
+            }
+            LogForm::Objects => {
+                let line = event_object(self.alloc, time, event, device)?;
+                let line = object_with_epoch(self.alloc, line, self.epoch)?;
+                self.errors.write_all(line.as_slice())
+            }
+        }
+    }
+}
+
+impl<R: Clock> Log for ErrorLog<'_, R> {
+    fn tell(&mut self, event: &LogEvent) {
+        if *event == LogEvent::Stopped {
+            let _lost = self.print_stop().is_err();
+            self.stopped.store(true, Ordering::SeqCst);
+        } else if self.form != LogForm::Silent {
+            let _lost = self.print(event, None).is_err();
+        }
+    }
 }
 
 /// Returns the text of a moment that the clock gives, in UTC. `None` if it gives none, or one past
@@ -138,75 +209,4 @@ fn object_with_epoch(
         [] => {}
     }
     Ok(bytes)
-}
-
-/// A log on the standard error: a line for each event, by one write, if lines are wanted. That the
-/// member is stopped is told in any case, with what the system said if a call of its journal's file
-/// failed, and is noted.
-#[derive(Drop)]
-pub struct ErrorLog<'a, R: Clock> {
-    /// The clock that tells the time of a line when it is printed.
-    pub clock: &'a R,
-    /// Memory for lines.
-    pub alloc: Global,
-    /// The stream to which lines go.
-    pub errors: Stderr,
-    /// The form in which events are told.
-    pub form: LogForm,
-    /// Set once the member is stopped.
-    pub stopped: &'a AtomicBool,
-    /// The place for the system's error at the first call of the journal's file that fails.
-    pub first_error: Option<Arc<FirstError>>,
-    /// The epoch of the member, if it is one of a chain.
-    pub epoch: Option<u64>,
-}
-
-impl<R: Clock> ErrorLog<'_, R> {
-    /// Prints an event, with what the system said of the journal's file if that is given.
-    fn print(&mut self, event: &LogEvent, device: Option<&str>) -> io::Result<()> {
-        let time = match self.form {
-            LogForm::Silent => None,
-            LogForm::Lines | LogForm::Objects => now_text(self.clock, self.alloc),
-        };
-        let time = match &time {
-            Some(text) => Some(text.as_str()),
-            None => None,
-        };
-        match self.form {
-            LogForm::Silent => {
-                let line = bare_line(self.alloc, event, device)?;
-                self.errors.write_all(line.as_bytes())
-            }
-            LogForm::Lines => {
-                let time = with_epoch(self.alloc, time.unwrap_or("-"), self.epoch)?;
-                let line = timed_line(self.alloc, time.as_str(), event, device)?;
-                self.errors.write_all(line.as_bytes())
-            }
-            LogForm::Objects => {
-                let line = event_object(self.alloc, time, event, device)?;
-                let line = object_with_epoch(self.alloc, line, self.epoch)?;
-                self.errors.write_all(line.as_slice())
-            }
-        }
-    }
-
-    /// Prints that the member is stopped, and why if that is known.
-    fn print_stop(&mut self) -> io::Result<()> {
-        let Some(error) = first_error_in(&self.first_error) else {
-            return self.print(&LogEvent::Stopped, None);
-        };
-        let device = format!(in self.alloc; "{error}")?;
-        self.print(&LogEvent::Stopped, Some(device.as_str()))
-    }
-}
-
-impl<R: Clock> Log for ErrorLog<'_, R> {
-    fn tell(&mut self, event: &LogEvent) {
-        if *event == LogEvent::Stopped {
-            let _lost = self.print_stop().is_err();
-            self.stopped.store(true, Ordering::SeqCst);
-        } else if self.form != LogForm::Silent {
-            let _lost = self.print(event, None).is_err();
-        }
-    }
 }

@@ -61,18 +61,17 @@ pub fn write_page(
     }
 }
 
-/// The fault of a page that can't be written: that of its file, or of the standard output where the
-/// path is `-`.
-pub fn fault_at(path: Option<&str>, of_file: Fault) -> Fault
-    ensures output { option_map (λ path. path.now) path.entry ≡ Some (codes "-") →
-        result ≡ ends.Stream }
-    ensures file { option_map (λ path. path.now) path.entry ≢ Some (codes "-") → result ≡ of_file }
-{
-    if takes_output(path, None) {
-        Fault::Stream
-    } else {
-        of_file
+/// Writes a page into the file at that path, or to the standard output where the path is `-`.
+fn write_at(
+    rt: &HostRuntime,
+    simulation: &Simulation,
+    page: Page<'_>,
+    path: &str,
+) -> io::Result<u64> {
+    if takes_output(Some(path), None) {
+        return write_into(rt.alloc(), simulation, page, io::writer(rt));
     }
+    write_into(rt.alloc(), simulation, page, File::create(rt, path)?)
 }
 
 /// Writes a page into what has room for a part of it at a time.
@@ -102,28 +101,22 @@ fn write_into<W: Write + Drop>(
     Ok(rows)
 }
 
-/// Writes a page into the file at that path, or to the standard output where the path is `-`.
-fn write_at(
-    rt: &HostRuntime,
-    simulation: &Simulation,
-    page: Page<'_>,
-    path: &str,
-) -> io::Result<u64> {
-    if takes_output(Some(path), None) {
-        return write_into(rt.alloc(), simulation, page, io::writer(rt));
+/// The fault of a page that can't be written: that of its file, or of the standard output where the
+/// path is `-`.
+pub fn fault_at(path: Option<&str>, of_file: Fault) -> Fault
+    ensures output { option_map (λ path. path.now) path.entry ≡ Some (codes "-") →
+        result ≡ ends.Stream }
+    ensures file { option_map (λ path. path.now) path.entry ≢ Some (codes "-") → result ≡ of_file }
+{
+    if takes_output(path, None) {
+        Fault::Stream
+    } else {
+        of_file
     }
-    write_into(rt.alloc(), simulation, page, File::create(rt, path)?)
 }
 
 /// The least number of rows of a chart that is too long for most viewers.
 const LONG: u64 = 100_000;
-
-/// Returns `true` if a chart of so many rows is too long for most viewers.
-fn is_too_long(rows: u64) -> bool
-    ensures { IsTrue result ↔ 100000 ≤ rows }
-{
-    rows >= LONG
-}
 
 /// Says on the standard error that the chart in the file at this path, of so many rows, is too long
 /// for most viewers, if it is. Nothing is said of one on the standard output.
@@ -143,16 +136,34 @@ pub fn warn_of_length(rt: &HostRuntime, rows: u64, path: Option<&str>) {
     let _unsaid = errors.write_all(line.as_bytes());
 }
 
-/// Returns `true` if what is known of two files is known of one.
-fn is_one_node(one: &Metadata, other: &Metadata) -> bool {
-    one.dev() == other.dev() && one.ino() == other.ino()
+/// Returns `true` if a chart of so many rows is too long for most viewers.
+fn is_too_long(rows: u64) -> bool
+    ensures { IsTrue result ↔ 100000 ≤ rows }
+{
+    rows >= LONG
 }
 
-/// The folder of a path, which is the working folder for a bare name.
-fn folder_of(path: &str) -> Path<'_> {
-    match Path::new(path).parent() {
-        Some(folder) if !folder.as_os_str().is_empty() => folder,
-        _ => Path::new("."),
+/// Refuses a path that names the file. [`Fault::SameFile`]: it does.
+pub fn keep_two_apart(rt: &HostRuntime, path: &str, file: &str) -> Result<(), Fault>
+    ensures { IsOk result → path.now ≢ file.now }
+{
+    if is_one_file(rt, path, file) {
+        return Err(Fault::SameFile(String::from_str(rt.alloc(), path)?));
+    }
+    Ok(())
+}
+
+/// Returns `true` if the paths name one file, be it there or not.
+fn is_one_file(rt: &HostRuntime, one: &str, other: &str) -> bool
+    ensures { one.now ≡ other.now → IsTrue result }
+{
+    if one == other {
+        return true;
+    }
+    match (fs::metadata(rt, one), fs::metadata(rt, other)) {
+        (Ok(first), Ok(second)) => is_one_node(&first, &second),
+        (Err(_), Err(_)) => would_be_one(rt, one, other),
+        _ => false,
     }
 }
 
@@ -171,52 +182,17 @@ fn would_be_one(rt: &HostRuntime, one: &str, other: &str) -> bool {
     }
 }
 
-/// Returns `true` if the paths name one file, be it there or not.
-fn is_one_file(rt: &HostRuntime, one: &str, other: &str) -> bool
-    ensures { one.now ≡ other.now → IsTrue result }
-{
-    if one == other {
-        return true;
-    }
-    match (fs::metadata(rt, one), fs::metadata(rt, other)) {
-        (Ok(first), Ok(second)) => is_one_node(&first, &second),
-        (Err(_), Err(_)) => would_be_one(rt, one, other),
-        _ => false,
+/// The folder of a path, which is the working folder for a bare name.
+fn folder_of(path: &str) -> Path<'_> {
+    match Path::new(path).parent() {
+        Some(folder) if !folder.as_os_str().is_empty() => folder,
+        _ => Path::new("."),
     }
 }
 
-/// Refuses a path that names the file. [`Fault::SameFile`]: it does.
-pub fn keep_two_apart(rt: &HostRuntime, path: &str, file: &str) -> Result<(), Fault>
-    ensures { IsOk result → path.now ≢ file.now }
-{
-    if is_one_file(rt, path, file) {
-        return Err(Fault::SameFile(String::from_str(rt.alloc(), path)?));
-    }
-    Ok(())
-}
-
-/// Refuses a page that would be written over the file. [`Fault::SameFile`]: its path names that
-/// file.
-fn keep_off(rt: &HostRuntime, page: Option<&str>, file: &str) -> Result<(), Fault>
-    ensures { IsOk result → option_map (λ path. path.now) page.entry ≢ Some file.now }
-{
-    match page {
-        Some(path) => keep_two_apart(rt, path, file),
-        None => Ok(()),
-    }
-}
-
-/// Refuses two pages that would be written over one another. [`Fault::SameFile`]: their paths name
-/// one file.
-fn keep_pages_apart(rt: &HostRuntime, one: Option<&str>, other: Option<&str>) -> Result<(), Fault>
-    ensures { IsOk result →
-        ArePagesApart (option_map (λ path. path.now) one.entry)
-        (option_map (λ path. path.now) other.entry) }
-{
-    match one {
-        Some(path) => keep_off(rt, other, path),
-        None => Ok(()),
-    }
+/// Returns `true` if what is known of two files is known of one.
+fn is_one_node(one: &Metadata, other: &Metadata) -> bool {
+    one.dev() == other.dev() && one.ino() == other.ino()
 }
 
 /// Refuses pages that would be written over the script or over one another, before anything is
@@ -232,4 +208,28 @@ pub fn keep_apart(rt: &HostRuntime, script: &str, paths: &PagePaths<'_>) -> Resu
     keep_pages_apart(rt, paths.trace, paths.chart)?;
     keep_pages_apart(rt, paths.trace, paths.play)?;
     keep_pages_apart(rt, paths.chart, paths.play)
+}
+
+/// Refuses two pages that would be written over one another. [`Fault::SameFile`]: their paths name
+/// one file.
+fn keep_pages_apart(rt: &HostRuntime, one: Option<&str>, other: Option<&str>) -> Result<(), Fault>
+    ensures { IsOk result →
+        ArePagesApart (option_map (λ path. path.now) one.entry)
+        (option_map (λ path. path.now) other.entry) }
+{
+    match one {
+        Some(path) => keep_off(rt, other, path),
+        None => Ok(()),
+    }
+}
+
+/// Refuses a page that would be written over the file. [`Fault::SameFile`]: its path names that
+/// file.
+fn keep_off(rt: &HostRuntime, page: Option<&str>, file: &str) -> Result<(), Fault>
+    ensures { IsOk result → option_map (λ path. path.now) page.entry ≢ Some file.now }
+{
+    match page {
+        Some(path) => keep_two_apart(rt, path, file),
+        None => Ok(()),
+    }
 }

@@ -12,17 +12,6 @@ use std::alloc::Global;
 /// The form of `--timeout`.
 const WORDS: &str = "--timeout wants seconds from 0 to 65535, as 5, 0.5 or 5s";
 
-/// Returns how many milliseconds a text of seconds says. [`Fault::Timeout`]: the text isn't a time.
-fn told_patience(alloc: Global, text: &str) -> Result<u32, Failure>
-    ensures told { IfOk result (IsPatience text.now) }
-    ensures fault { IfErr result (λ failure. failure.fault ≡ ends.Timeout) }
-{
-    match milliseconds(text) {
-        Some(found) => Ok(found),
-        None => Err(Failure::at(alloc, Fault::Timeout, text, Whereabouts::Whole, &WORDS)),
-    }
-}
-
 /// Returns how many milliseconds a client is to wait, if it is told. [`Fault::Timeout`]: the text
 /// isn't a time.
 pub fn patience_of(alloc: Global, text: Option<&str>) -> Result<Option<u32>, Failure>
@@ -35,5 +24,16 @@ pub fn patience_of(alloc: Global, text: Option<&str>) -> Result<Option<u32>, Fai
             Ok(found) => Ok(Some(found)),
             Err(failure) => Err(failure),
         },
+    }
+}
+
+/// Returns how many milliseconds a text of seconds says. [`Fault::Timeout`]: the text isn't a time.
+fn told_patience(alloc: Global, text: &str) -> Result<u32, Failure>
+    ensures told { IfOk result (IsPatience text.now) }
+    ensures fault { IfErr result (λ failure. failure.fault ≡ ends.Timeout) }
+{
+    match milliseconds(text) {
+        Some(found) => Ok(found),
+        None => Err(Failure::at(alloc, Fault::Timeout, text, Whereabouts::Whole, &WORDS)),
     }
 }

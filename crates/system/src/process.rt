@@ -5,11 +5,6 @@ use crate::signals::{is_blocked, is_called};
 use std::fs;
 use std::io::{self, Write};
 
-/// The signals of this process, and much else of it.
-fn status(host: &HostRuntime) -> io::Result<Vec<u8>> {
-    fs::read(host, "/proc/self/status")
-}
-
 /// Returns `true` if the process was started with SIGTERM or SIGINT blocked, so that one that comes
 /// waits.
 pub fn blocks_signals(host: &HostRuntime) -> bool {
@@ -25,6 +20,11 @@ pub fn is_called_off(host: &HostRuntime) -> bool {
         Ok(status) => is_called(host.alloc(), &status).unwrap_or(false),
         Err(_) => false,
     }
+}
+
+/// The signals of this process, and much else of it.
+fn status(host: &HostRuntime) -> io::Result<Vec<u8>> {
+    fs::read(host, "/proc/self/status")
 }
 
 /// Returns how many files this process may have open; none where it may have any number, or the

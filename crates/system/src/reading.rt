@@ -37,42 +37,6 @@ impl Text {
     }
 }
 
-/// Returns what is told of a file that is longer than what is read.
-fn long_words(alloc: Global, most: u64) -> Result<String, AllocError>
-    ensures { IfOk result
-        (λ text. string_bytes text ≡ codes "longer than "
-        ++ (decimal most ++ codes " bytes, the most that is read")) }
-{
-    format!(in alloc; "longer than {most} bytes, the most that is read")
-}
-
-/// The failure of a file that is longer than what is read.
-fn long_failure(alloc: Global, path: &str, most: u64) -> Failure
-    ensures fault { IsMeant ends.File result.fault }
-    ensures named { IsNamed path.now result }
-{
-    match long_words(alloc, most) {
-        Ok(words) => Failure::at(alloc, Fault::File, path, Whereabouts::Read, &words),
-        Err(_) => Failure::from(Fault::Memory),
-    }
-}
-
-/// The bytes of the file, but no more than so many and one.
-fn read_some(rt: &HostRuntime, path: &str, most: u64) -> io::Result<Vec<u8>> {
-    let file = File::open(rt, path)?;
-    let mut bytes = Vec::new(rt.alloc());
-    file.take(most.saturating_add(1)).read_to_end(&mut bytes)?;
-    Ok(bytes)
-}
-
-/// Returns `true` if there are more bytes than so many.
-fn is_longer(bytes: &[u8], most: u64) -> bool
-    ensures no { result ≡ false → length bytes.now ≤ most }
-    ensures yes { result ≡ true → most < length bytes.now }
-{
-    bytes.len() as u64 > most
-}
-
 /// All bytes of the file, where they are no more than are read of such a text.
 ///
 /// [`Fault::File`]: they are more, or the file can't be read.
@@ -97,4 +61,40 @@ pub fn read_file(rt: &HostRuntime, path: &str, text: Text) -> Result<Vec<u8>, Fa
             error,
         )),
     }
+}
+
+/// The bytes of the file, but no more than so many and one.
+fn read_some(rt: &HostRuntime, path: &str, most: u64) -> io::Result<Vec<u8>> {
+    let file = File::open(rt, path)?;
+    let mut bytes = Vec::new(rt.alloc());
+    file.take(most.saturating_add(1)).read_to_end(&mut bytes)?;
+    Ok(bytes)
+}
+
+/// Returns `true` if there are more bytes than so many.
+fn is_longer(bytes: &[u8], most: u64) -> bool
+    ensures no { result ≡ false → length bytes.now ≤ most }
+    ensures yes { result ≡ true → most < length bytes.now }
+{
+    bytes.len() as u64 > most
+}
+
+/// The failure of a file that is longer than what is read.
+fn long_failure(alloc: Global, path: &str, most: u64) -> Failure
+    ensures fault { IsMeant ends.File result.fault }
+    ensures named { IsNamed path.now result }
+{
+    match long_words(alloc, most) {
+        Ok(words) => Failure::at(alloc, Fault::File, path, Whereabouts::Read, &words),
+        Err(_) => Failure::from(Fault::Memory),
+    }
+}
+
+/// Returns what is told of a file that is longer than what is read.
+fn long_words(alloc: Global, most: u64) -> Result<String, AllocError>
+    ensures { IfOk result
+        (λ text. string_bytes text ≡ codes "longer than "
+        ++ (decimal most ++ codes " bytes, the most that is read")) }
+{
+    format!(in alloc; "longer than {most} bytes, the most that is read")
 }

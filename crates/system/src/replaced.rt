@@ -12,22 +12,6 @@ pub struct Identity {
     pub number: u64,
 }
 
-/// Returns `true` if the two are one file.
-fn is_same(one: Identity, other: Identity) -> bool
-    ensures { IsTrue result ↔ ((one.device ≡ other.device) × (one.number ≡ other.number)) }
-{
-    one.device == other.device && one.number == other.number
-}
-
-/// The file that the path names.
-fn identity_at(host: &HostRuntime, path: &str) -> io::Result<Identity> {
-    let known = fs::metadata(host, path)?;
-    Ok(Identity {
-        device: known.dev(),
-        number: known.ino(),
-    })
-}
-
 /// The path of a file that is open, and which file it was when it was opened.
 #[derive(Drop)]
 pub struct Watched<'a> {
@@ -61,4 +45,20 @@ impl<'a> Watched<'a> {
             Err(error) => error.kind() == io::ErrorKind::NotFound,
         }
     }
+}
+
+/// The file that the path names.
+fn identity_at(host: &HostRuntime, path: &str) -> io::Result<Identity> {
+    let known = fs::metadata(host, path)?;
+    Ok(Identity {
+        device: known.dev(),
+        number: known.ino(),
+    })
+}
+
+/// Returns `true` if the two are one file.
+fn is_same(one: Identity, other: Identity) -> bool
+    ensures { IsTrue result ↔ ((one.device ≡ other.device) × (one.number ≡ other.number)) }
+{
+    one.device == other.device && one.number == other.number
 }

@@ -94,32 +94,6 @@ pub fn audited_of(alloc: Global, words: &AuditWords) -> Result<Audited, Failure>
     }
 }
 
-/// Returns `true` if the words of `simulate` name the file of a page.
-fn has_page(words: &SimulateWords<'_>) -> bool {
-    words.trace.is_some() || words.chart.is_some() || words.page.is_some()
-}
-
-/// Returns the scripts that the words of `simulate` name; none if they have neither form.
-fn simulated_by<'a>(words: &SimulateWords<'a>) -> Option<Simulated<'a>> {
-    match words.script {
-        Some(script) => {
-            if words.forever || words.seed.is_some() || words.seconds.is_some() {
-                return None;
-            }
-            Some(Simulated::Script(script))
-        }
-        None => {
-            if !words.forever || has_page(words) {
-                return None;
-            }
-            Some(Simulated::Forever {
-                seed: words.seed,
-                seconds: words.seconds,
-            })
-        }
-    }
-}
-
 /// Plays what the words of `simulate` name. [`Fault::Words`]: they have neither form. Rows of a
 /// chart are refused for ever too.
 pub fn simulate(rt: &HostRuntime, words: &SimulateWords<'_>) -> Result<u8, Failure> {
@@ -144,4 +118,30 @@ pub fn simulate(rt: &HostRuntime, words: &SimulateWords<'_>) -> Result<u8, Failu
             &SIMULATE,
         )),
     }
+}
+
+/// Returns the scripts that the words of `simulate` name; none if they have neither form.
+fn simulated_by<'a>(words: &SimulateWords<'a>) -> Option<Simulated<'a>> {
+    match words.script {
+        Some(script) => {
+            if words.forever || words.seed.is_some() || words.seconds.is_some() {
+                return None;
+            }
+            Some(Simulated::Script(script))
+        }
+        None => {
+            if !words.forever || has_page(words) {
+                return None;
+            }
+            Some(Simulated::Forever {
+                seed: words.seed,
+                seconds: words.seconds,
+            })
+        }
+    }
+}
+
+/// Returns `true` if the words of `simulate` name the file of a page.
+fn has_page(words: &SimulateWords<'_>) -> bool {
+    words.trace.is_some() || words.chart.is_some() || words.page.is_some()
 }

@@ -15,18 +15,6 @@ pub fn rest_of<'a>(line: &'a [u8], head: &str) -> Option<&'a [u8]>
     behind(line, head)
 }
 
-/// Returns what stands behind the head in the first of the lines that begins with it.
-fn first_with<'a>(lines: &[&'a [u8]], head: &str) -> Option<&'a [u8]>
-    ensures { option_map (λ rest. rest.now) result ≡ first_with head.now (texts lines.now) }
-{
-    for line in lines {
-        if let Some(rest) = rest_of(line, head) {
-            return Some(rest);
-        }
-    }
-    None
-}
-
 /// Returns what stands behind the head in the first line of the text that begins with it.
 pub fn line_with<'a>(
     alloc: Global,
@@ -38,4 +26,16 @@ pub fn line_with<'a>(
 {
     let lines = lines_in(alloc, text)?;
     Ok(first_with(&lines, head))
+}
+
+/// Returns what stands behind the head in the first of the lines that begins with it.
+fn first_with<'a>(lines: &[&'a [u8]], head: &str) -> Option<&'a [u8]>
+    ensures { option_map (λ rest. rest.now) result ≡ first_with head.now (texts lines.now) }
+{
+    for line in lines {
+        if let Some(rest) = rest_of(line, head) {
+            return Some(rest);
+        }
+    }
+    None
 }

@@ -4,15 +4,6 @@ use std::fs::File;
 use std::io;
 use std::os::fd::AsRawFd;
 
-/// A file that is read to its end at once, and can't be written: the null device, or the root
-/// folder where there is none, of which a read fails.
-fn holder(rt: &HostRuntime) -> io::Result<File> {
-    match File::open(rt, "/dev/null") {
-        Ok(file) => Ok(file),
-        Err(_) => File::open(rt, "/"),
-    }
-}
-
 /// A file for each standard stream that was closed: a write to it fails, and a read is at its end.
 /// To be kept as long as the program runs. Who does a command's work asks for it, so that none is
 /// done without.
@@ -34,4 +25,13 @@ pub fn hold_streams(rt: &HostRuntime) -> io::Result<HeldStreams> {
         files.push(file)?;
     }
     Ok(HeldStreams { files })
+}
+
+/// A file that is read to its end at once, and can't be written: the null device, or the root
+/// folder where there is none, of which a read fails.
+fn holder(rt: &HostRuntime) -> io::Result<File> {
+    match File::open(rt, "/dev/null") {
+        Ok(file) => Ok(file),
+        Err(_) => File::open(rt, "/"),
+    }
 }

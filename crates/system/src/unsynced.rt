@@ -44,68 +44,6 @@ fn first_text(alloc: Global, text: &[u8]) -> Result<Option<String>, AllocError>
     }
 }
 
-/// The path of the mark of a journal.
-fn mark_path(alloc: Global, journal: &str) -> Result<String, AllocError>
-    ensures { IfOk result (λ path. string_bytes path ≡ journal.now ++ codes ".unsynced") }
-{
-    format!(in alloc; "{journal}.unsynced")
-}
-
-/// Returns `true` if a mark with this target was left in the boot of this id.
-fn is_of(target: &str, boot: &str) -> bool
-    ensures { IsTrue result ↔ (target.now ≡ boot.now) }
-{
-    target == boot
-}
-
-/// The place of a journal's mark, and what it says in this boot.
-#[derive(Drop)]
-struct Mark {
-    path: String,
-    boot: String,
-}
-
-impl Mark {
-    /// The mark of a journal; none where the system tells no id of the boot.
-    fn of(host: &HostRuntime, journal: &str) -> Result<Option<Mark>, AllocError>
-        ensures { IfOk result
-            (λ mark. IfSome mark (λ mark. string_bytes mark.path ≡ journal.now
-            ++ codes ".unsynced")) }
-    {
-        let text = match fs::read(host, BOOT) {
-            Ok(text) => text,
-            Err(error) if error.kind() == io::ErrorKind::OutOfMemory => return Err(AllocError),
-            Err(_) => return Ok(None),
-        };
-        let Some(boot) = first_text(host.alloc(), &text)? else {
-            return Ok(None);
-        };
-        let path = mark_path(host.alloc(), journal)?;
-        Ok(Some(Mark { path, boot }))
-    }
-
-    /// Returns if the mark is there, and of which boot: `true` for this one, `false` for another.
-    fn found(&self, host: &HostRuntime) -> Result<Option<bool>, AllocError> {
-        match fs::read_link(host, self.path.as_str()) {
-            Ok(target) => Ok(Some(is_of(target.as_str(), self.boot.as_str()))),
-            Err(error) if error.kind() == io::ErrorKind::OutOfMemory => Err(AllocError),
-            Err(_) => Ok(None),
-        }
-    }
-
-    /// Leaves the mark, in the place of one of another boot, if one is there.
-    fn leave(&self, host: &HostRuntime) {
-        if unix::fs::symlink(host, self.boot.as_str(), self.path.as_str()).is_ok() {
-            return;
-        }
-        if let Ok(Some(true)) = self.found(host) {
-            return;
-        }
-        let _gone = fs::remove_file(host, self.path.as_str()).is_ok();
-        let _left = unix::fs::symlink(host, self.boot.as_str(), self.path.as_str()).is_ok();
-    }
-}
-
 /// Refuses a journal of which a sync failed in this boot.
 ///
 /// [`Fault::Journal`] with [`JournalFault::Device`]: one did.
@@ -210,4 +148,66 @@ impl<P: Premise> Disk for MarkedDisk<P> {
             }
         }
     }
+}
+
+/// The place of a journal's mark, and what it says in this boot.
+#[derive(Drop)]
+struct Mark {
+    path: String,
+    boot: String,
+}
+
+impl Mark {
+    /// The mark of a journal; none where the system tells no id of the boot.
+    fn of(host: &HostRuntime, journal: &str) -> Result<Option<Mark>, AllocError>
+        ensures { IfOk result
+            (λ mark. IfSome mark (λ mark. string_bytes mark.path ≡ journal.now
+            ++ codes ".unsynced")) }
+    {
+        let text = match fs::read(host, BOOT) {
+            Ok(text) => text,
+            Err(error) if error.kind() == io::ErrorKind::OutOfMemory => return Err(AllocError),
+            Err(_) => return Ok(None),
+        };
+        let Some(boot) = first_text(host.alloc(), &text)? else {
+            return Ok(None);
+        };
+        let path = mark_path(host.alloc(), journal)?;
+        Ok(Some(Mark { path, boot }))
+    }
+
+    /// Leaves the mark, in the place of one of another boot, if one is there.
+    fn leave(&self, host: &HostRuntime) {
+        if unix::fs::symlink(host, self.boot.as_str(), self.path.as_str()).is_ok() {
+            return;
+        }
+        if let Ok(Some(true)) = self.found(host) {
+            return;
+        }
+        let _gone = fs::remove_file(host, self.path.as_str()).is_ok();
+        let _left = unix::fs::symlink(host, self.boot.as_str(), self.path.as_str()).is_ok();
+    }
+
+    /// Returns if the mark is there, and of which boot: `true` for this one, `false` for another.
+    fn found(&self, host: &HostRuntime) -> Result<Option<bool>, AllocError> {
+        match fs::read_link(host, self.path.as_str()) {
+            Ok(target) => Ok(Some(is_of(target.as_str(), self.boot.as_str()))),
+            Err(error) if error.kind() == io::ErrorKind::OutOfMemory => Err(AllocError),
+            Err(_) => Ok(None),
+        }
+    }
+}
+
+/// The path of the mark of a journal.
+fn mark_path(alloc: Global, journal: &str) -> Result<String, AllocError>
+    ensures { IfOk result (λ path. string_bytes path ≡ journal.now ++ codes ".unsynced") }
+{
+    format!(in alloc; "{journal}.unsynced")
+}
+
+/// Returns `true` if a mark with this target was left in the boot of this id.
+fn is_of(target: &str, boot: &str) -> bool
+    ensures { IsTrue result ↔ (target.now ≡ boot.now) }
+{
+    target == boot
 }

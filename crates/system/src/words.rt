@@ -15,13 +15,16 @@ use numerals::size_from;
 use std::alloc::Global;
 use terms::{Size, SizeFault};
 
-/// Returns what has to hold where it doesn't.
-fn rule_of(fault: SizeFault) -> &'static str {
-    match fault {
-        SizeFault::NoMembers | SizeFault::TooManyMembers => "1 <= n <= 64 has to hold",
-        SizeFault::TooManyLiars => "n > 3t has to hold",
-        SizeFault::NoQuestions | SizeFault::TooManyQuestions =>
-            "1 <= questions <= 4096 has to hold",
+/// Returns the size of these numbers. [`Fault::Size`]: they make none.
+pub fn size_of(alloc: Global, n: u16, t: u16, questions: u16) -> Result<Size, Failure>
+    ensures ok { IfOk result (λ size. size ≡ new_size n t questions) }
+    ensures fault { IfErr result
+        (λ failure. (fault : SizeFault) × (size_fault n t questions ≡ Some fault)
+        × (failure.fault ≡ ends.Size fault)) }
+{
+    match size_from(n, t, questions) {
+        Ok(size) => Ok(size),
+        Err(fault) => Err(size_failure(alloc, n, t, questions, fault)),
     }
 }
 
@@ -42,16 +45,40 @@ fn size_failure(alloc: Global, n: u16, t: u16, questions: u16, fault: SizeFault)
     }
 }
 
-/// Returns the size of these numbers. [`Fault::Size`]: they make none.
-pub fn size_of(alloc: Global, n: u16, t: u16, questions: u16) -> Result<Size, Failure>
-    ensures ok { IfOk result (λ size. size ≡ new_size n t questions) }
-    ensures fault { IfErr result
-        (λ failure. (fault : SizeFault) × (size_fault n t questions ≡ Some fault)
-        × (failure.fault ≡ ends.Size fault)) }
+/// Returns what has to hold where it doesn't.
+fn rule_of(fault: SizeFault) -> &'static str {
+    match fault {
+        SizeFault::NoMembers | SizeFault::TooManyMembers => "1 <= n <= 64 has to hold",
+        SizeFault::TooManyLiars => "n > 3t has to hold",
+        SizeFault::NoQuestions | SizeFault::TooManyQuestions =>
+            "1 <= questions <= 4096 has to hold",
+    }
+}
+
+/// Returns how `hear` as a member `me` of `n` ended, with words for a member that there is not and
+/// a line that is none.
+pub fn hear_end(alloc: Global, n: u8, me: u8, ended: Result<u8, Fault>) -> Result<u8, Failure>
+    ensures done { (status : ℕ) → ended ≡ Ok status → result ≡ Ok status }
+    ensures fault { (fault : Fault) → ended ≡ Err fault →
+        IsErrAnd result (λ failure. failure.fault ≡ fault) }
 {
-    match size_from(n, t, questions) {
-        Ok(size) => Ok(size),
-        Err(fault) => Err(size_failure(alloc, n, t, questions, fault)),
+    match ended {
+        Ok(status) => Ok(status),
+        Err(Fault::Hear(fault)) => Err(hear_failure(alloc, n, me, fault)),
+        Err(fault) => Err(Failure::from(fault)),
+    }
+}
+
+/// The failure of `hear` as a member `me` of `n`: of a member that there is not, or a line that is
+/// none, with words.
+fn hear_failure(alloc: Global, n: u8, me: u8, fault: HearFault) -> Failure
+    ensures { result.fault ≡ ends.Hear fault }
+{
+    match fault {
+        HearFault::Me => member_failure(alloc, n, me),
+        HearFault::Line(line) => line_failure(alloc, line),
+        HearFault::Stream => Failure::from(Fault::Hear(HearFault::Stream)),
+        HearFault::Memory => Failure::from(Fault::Hear(HearFault::Memory)),
     }
 }
 
@@ -88,48 +115,37 @@ fn line_failure(alloc: Global, line: u64) -> Failure
     }
 }
 
-/// The failure of `hear` as a member `me` of `n`: of a member that there is not, or a line that is
-/// none, with words.
-fn hear_failure(alloc: Global, n: u8, me: u8, fault: HearFault) -> Failure
-    ensures { result.fault ≡ ends.Hear fault }
+/// Returns what the number has to be that this fault of the command line is about; none if it is
+/// about none.
+pub fn number_words(said: &str) -> Option<&'static str>
+    ensures { IfSome result (λ words. IsNumberWords said.now words.now) }
 {
-    match fault {
-        HearFault::Me => member_failure(alloc, n, me),
-        HearFault::Line(line) => line_failure(alloc, line),
-        HearFault::Stream => Failure::from(Fault::Hear(HearFault::Stream)),
-        HearFault::Memory => Failure::from(Fault::Hear(HearFault::Memory)),
+    for number in [
+        Number::Bit,
+        Number::Question,
+        Number::Members,
+        Number::Liars,
+        Number::Questions,
+        Number::Me,
+        Number::Cluster,
+        Number::Port,
+        Number::ChartQuestion,
+        Number::ChartMember,
+        Number::First,
+        Number::Last,
+    ] {
+        if is_about(said, number) {
+            return Some(number_text(number));
+        }
     }
+    None
 }
 
-/// Returns how `hear` as a member `me` of `n` ended, with words for a member that there is not and
-/// a line that is none.
-pub fn hear_end(alloc: Global, n: u8, me: u8, ended: Result<u8, Fault>) -> Result<u8, Failure>
-    ensures done { (status : ℕ) → ended ≡ Ok status → result ≡ Ok status }
-    ensures fault { (fault : Fault) → ended ≡ Err fault →
-        IsErrAnd result (λ failure. failure.fault ≡ fault) }
+/// Returns `true` if the fault of the command line is about the number.
+fn is_about(said: &str, number: Number) -> bool
+    ensures { (result ≡ true) ↔ HasPart said.now (mark_text number) }
 {
-    match ended {
-        Ok(status) => Ok(status),
-        Err(Fault::Hear(fault)) => Err(hear_failure(alloc, n, me, fault)),
-        Err(fault) => Err(Failure::from(fault)),
-    }
-}
-
-/// A number that a word or an option of the command line has to be.
-#[derive(Clone, Copy, Debug, PartialEq, Eq)]
-enum Number {
-    Bit,
-    Question,
-    Members,
-    Liars,
-    Questions,
-    Me,
-    Cluster,
-    Port,
-    ChartQuestion,
-    ChartMember,
-    First,
-    Last,
+    said.contains(mark_of(number))
 }
 
 /// Returns how the reader of the command line names the number where the word is none.
@@ -174,35 +190,19 @@ fn number_text(number: Number) -> &'static str
     }
 }
 
-/// Returns `true` if the fault of the command line is about the number.
-fn is_about(said: &str, number: Number) -> bool
-    ensures { (result ≡ true) ↔ HasPart said.now (mark_text number) }
-{
-    said.contains(mark_of(number))
-}
-
-/// Returns what the number has to be that this fault of the command line is about; none if it is
-/// about none.
-pub fn number_words(said: &str) -> Option<&'static str>
-    ensures { IfSome result (λ words. IsNumberWords said.now words.now) }
-{
-    for number in [
-        Number::Bit,
-        Number::Question,
-        Number::Members,
-        Number::Liars,
-        Number::Questions,
-        Number::Me,
-        Number::Cluster,
-        Number::Port,
-        Number::ChartQuestion,
-        Number::ChartMember,
-        Number::First,
-        Number::Last,
-    ] {
-        if is_about(said, number) {
-            return Some(number_text(number));
-        }
-    }
-    None
+/// A number that a word or an option of the command line has to be.
+#[derive(Clone, Copy, Debug, PartialEq, Eq)]
+enum Number {
+    Bit,
+    Question,
+    Members,
+    Liars,
+    Questions,
+    Me,
+    Cluster,
+    Port,
+    ChartQuestion,
+    ChartMember,
+    First,
+    Last,
 }

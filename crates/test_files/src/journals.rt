@@ -28,86 +28,24 @@ fn header(me: u8) -> Result<Header, Fail>
     Ok(Header::new(7, size, me).ok_or("a header")?)
 }
 
-fn echo() -> Result<Record, Fail>
-    ensures { IfOk result (λ r. r ≡ Said (new_statement Echo (new_place 0 0 1 1) One)) }
-{
-    let place = Place::new(0, 0, 1, 1).ok_or("a place")?;
-    let statement = Statement::new(Kind::Echo, place, Value::One).ok_or("a statement")?;
-    Ok(Record::Said(statement))
+#[test]
+fn a_journal_adds_batches_until_it_is_stopped(rt: HostRuntime) -> Result<(), Fail> {
+    let alloc = rt.alloc();
+    assert!(rt; adds_one_echo(alloc)?);
+    assert!(rt; adds_two_at_once(alloc)?);
+    assert!(rt; stays_stopped(alloc)?);
+    Ok(())
 }
 
-/// A disk that has these bytes at rest.
-fn disk_of(alloc: Global, bytes: &[u8]) -> Result<MemDisk, JournalFault> {
-    let mut disk = MemDisk::new(alloc);
-    disk.write_at(0, bytes)?;
-    disk.sync()?;
-    Ok(disk)
-}
-
-/// Returns what reads give of it.
-fn content(alloc: Global, disk: &mut MemDisk) -> Result<Vec<u8>, JournalFault> {
-    let len = disk.len()?;
-    let mut bytes = vec![in alloc; 0; len]?;
-    disk.read_at(0, &mut bytes)?;
-    Ok(bytes)
-}
-
-/// The records that an opening of this file gives, or its fault.
-fn opening(alloc: Global, header: Header, bytes: &[u8]) -> Result<Vec<Record>, JournalFault> {
-    let (_, records) = Journal::open(alloc, disk_of(alloc, bytes)?, &header)?;
-    Ok(records)
-}
-
-/// Returns how many records it gives, once more where it isn't as wanted.
-fn count_of(
-    alloc: Global,
-    header: Header,
-    bytes: &[u8],
-    wanted: Result<usize, JournalFault>,
-) -> Result<usize, JournalFault> {
-    let first = opening(alloc, header, bytes).map(|records| records.len());
-    if first == wanted {
-        return first;
-    }
-    opening(alloc, header, bytes).map(|records| records.len())
-}
-
-/// The answers to appends of no record and of the echo where no call of the device passes, and then
-/// to one of the echo where all pass.
-type Answers = (
-    Result<(), JournalFault>,
-    Result<(), JournalFault>,
-    Result<(), JournalFault>,
-);
-
-fn stopped(alloc: Global, header: Header, echo: Record) -> Result<Answers, JournalFault>
-    requires header { header ≡ new_header 7 (new_size 4 1 1) 1 }
-    requires echo { echo ≡ Said (new_statement Echo (new_place 0 0 1 1) One) }
-{
-    let (mut journal, _) = Journal::open(alloc, disk_of(alloc, &EMPTY)?, &header)?;
-    journal.fuse(Some(0));
-    let empty = journal.append(&[]);
-    let answer = journal.append(&[echo]);
-    if !journal.is_stopped() {
-        return Err(JournalFault::Full);
-    }
-    journal.fuse(None);
-    Ok((empty, answer, journal.append(&[echo])))
-}
-
-/// Whether a journal whose disk has failed stays stopped, though that answers again.
-fn stays_stopped(alloc: Global) -> Result<bool, Fail> {
+/// Whether a batch of one is the file that it has to be, and is found there.
+fn adds_one_echo(alloc: Global) -> Result<bool, Fail> {
     let (header, echo) = (header(1)?, echo()?);
-    let wanted = Ok((
-        Ok(()),
-        Err(JournalFault::Device),
-        Err(JournalFault::Stopped),
-    ));
-    let mut answers = stopped(alloc, header, echo);
-    if answers != wanted {
-        answers = stopped(alloc, header, echo);
-    }
-    Ok(answers == wanted)
+    let bytes = match one_echo_file(alloc, header, echo) {
+        Ok(bytes) => bytes,
+        Err(_) => one_echo_file(alloc, header, echo)?,
+    };
+    let count = count_of(alloc, header, &ONE_ECHO, Ok(1));
+    Ok(bytes.as_slice() == ONE_ECHO.as_slice() && count == Ok(1))
 }
 
 /// The file after a creation and an append of the echo. Memory that the journal itself is refused
@@ -133,15 +71,38 @@ fn one_echo_file(alloc: Global, header: Header, echo: Record) -> Result<Vec<u8>,
     content(alloc, &mut disk)
 }
 
-/// Whether a batch of one is the file that it has to be, and is found there.
-fn adds_one_echo(alloc: Global) -> Result<bool, Fail> {
+/// Returns what reads give of it.
+fn content(alloc: Global, disk: &mut MemDisk) -> Result<Vec<u8>, JournalFault> {
+    let len = disk.len()?;
+    let mut bytes = vec![in alloc; 0; len]?;
+    disk.read_at(0, &mut bytes)?;
+    Ok(bytes)
+}
+
+/// Returns how many records it gives, once more where it isn't as wanted.
+fn count_of(
+    alloc: Global,
+    header: Header,
+    bytes: &[u8],
+    wanted: Result<usize, JournalFault>,
+) -> Result<usize, JournalFault> {
+    let first = opening(alloc, header, bytes).map(|records| records.len());
+    if first == wanted {
+        return first;
+    }
+    opening(alloc, header, bytes).map(|records| records.len())
+}
+
+/// The records that an opening of this file gives, or its fault.
+fn opening(alloc: Global, header: Header, bytes: &[u8]) -> Result<Vec<Record>, JournalFault> {
+    let (_, records) = Journal::open(alloc, disk_of(alloc, bytes)?, &header)?;
+    Ok(records)
+}
+
+/// Whether a batch of two has both records.
+fn adds_two_at_once(alloc: Global) -> Result<bool, Fail> {
     let (header, echo) = (header(1)?, echo()?);
-    let bytes = match one_echo_file(alloc, header, echo) {
-        Ok(bytes) => bytes,
-        Err(_) => one_echo_file(alloc, header, echo)?,
-    };
-    let count = count_of(alloc, header, &ONE_ECHO, Ok(1));
-    Ok(bytes.as_slice() == ONE_ECHO.as_slice() && count == Ok(1))
+    Ok(two_at_once(alloc, header, echo) == Ok(2))
 }
 
 /// Returns how many records there are after a batch of two. It is played once: with ample memory
@@ -156,17 +117,56 @@ fn two_at_once(alloc: Global, header: Header, echo: Record) -> Result<usize, Jou
     Ok(records.len())
 }
 
-/// Whether a batch of two has both records.
-fn adds_two_at_once(alloc: Global) -> Result<bool, Fail> {
+/// Whether a journal whose disk has failed stays stopped, though that answers again.
+fn stays_stopped(alloc: Global) -> Result<bool, Fail> {
     let (header, echo) = (header(1)?, echo()?);
-    Ok(two_at_once(alloc, header, echo) == Ok(2))
+    let wanted = Ok((
+        Ok(()),
+        Err(JournalFault::Device),
+        Err(JournalFault::Stopped),
+    ));
+    let mut answers = stopped(alloc, header, echo);
+    if answers != wanted {
+        answers = stopped(alloc, header, echo);
+    }
+    Ok(answers == wanted)
 }
 
-#[test]
-fn a_journal_adds_batches_until_it_is_stopped(rt: HostRuntime) -> Result<(), Fail> {
-    let alloc = rt.alloc();
-    assert!(rt; adds_one_echo(alloc)?);
-    assert!(rt; adds_two_at_once(alloc)?);
-    assert!(rt; stays_stopped(alloc)?);
-    Ok(())
+fn stopped(alloc: Global, header: Header, echo: Record) -> Result<Answers, JournalFault>
+    requires header { header ≡ new_header 7 (new_size 4 1 1) 1 }
+    requires echo { echo ≡ Said (new_statement Echo (new_place 0 0 1 1) One) }
+{
+    let (mut journal, _) = Journal::open(alloc, disk_of(alloc, &EMPTY)?, &header)?;
+    journal.fuse(Some(0));
+    let empty = journal.append(&[]);
+    let answer = journal.append(&[echo]);
+    if !journal.is_stopped() {
+        return Err(JournalFault::Full);
+    }
+    journal.fuse(None);
+    Ok((empty, answer, journal.append(&[echo])))
+}
+
+fn echo() -> Result<Record, Fail>
+    ensures { IfOk result (λ r. r ≡ Said (new_statement Echo (new_place 0 0 1 1) One)) }
+{
+    let place = Place::new(0, 0, 1, 1).ok_or("a place")?;
+    let statement = Statement::new(Kind::Echo, place, Value::One).ok_or("a statement")?;
+    Ok(Record::Said(statement))
+}
+
+/// The answers to appends of no record and of the echo where no call of the device passes, and then
+/// to one of the echo where all pass.
+type Answers = (
+    Result<(), JournalFault>,
+    Result<(), JournalFault>,
+    Result<(), JournalFault>,
+);
+
+/// A disk that has these bytes at rest.
+fn disk_of(alloc: Global, bytes: &[u8]) -> Result<MemDisk, JournalFault> {
+    let mut disk = MemDisk::new(alloc);
+    disk.write_at(0, bytes)?;
+    disk.sync()?;
+    Ok(disk)
 }

@@ -19,28 +19,6 @@ const PATH: &str = "disk_tests_order";
 /// How many files the process may have open at most, and so opens here.
 const MOST: usize = 64;
 
-/// Opens the working folder as often as it is let, but for so many times.
-fn hold_all_but(rt: &HostRuntime, free: usize) -> Result<Vec<File>, Fail> {
-    let mut held = Vec::new(rt.alloc());
-    for _ in 0..MOST {
-        match File::open(rt, ".") {
-            Ok(file) => held.push(file)?,
-            Err(_) => break,
-        }
-    }
-    let count = held.len().saturating_sub(free);
-    held.truncate(count);
-    Ok(held)
-}
-
-/// Whether a disk was had where so many files may be opened, and whether its file was made.
-fn opens_with(rt: &HostRuntime, free: usize) -> Result<[bool; 2], Fail> {
-    let held = hold_all_but(rt, free)?;
-    let is_had = FileDisk::<Brand>::open(rt, PATH, true).is_ok();
-    drop(held);
-    Ok([is_had, fs::remove_file(rt, PATH).is_ok()])
-}
-
 #[test]
 fn a_process(rt: HostRuntime) -> Result<(), Fail> {
     if env::var(&rt, STARTED).is_err() {
@@ -55,6 +33,28 @@ fn a_process(rt: HostRuntime) -> Result<(), Fail> {
     assert!(rt; told == [[false, false], [false, false], [true, true]]);
     println!(&rt; "in order")?;
     Ok(())
+}
+
+/// Whether a disk was had where so many files may be opened, and whether its file was made.
+fn opens_with(rt: &HostRuntime, free: usize) -> Result<[bool; 2], Fail> {
+    let held = hold_all_but(rt, free)?;
+    let is_had = FileDisk::<Brand>::open(rt, PATH, true).is_ok();
+    drop(held);
+    Ok([is_had, fs::remove_file(rt, PATH).is_ok()])
+}
+
+/// Opens the working folder as often as it is let, but for so many times.
+fn hold_all_but(rt: &HostRuntime, free: usize) -> Result<Vec<File>, Fail> {
+    let mut held = Vec::new(rt.alloc());
+    for _ in 0..MOST {
+        match File::open(rt, ".") {
+            Ok(file) => held.push(file)?,
+            Err(_) => break,
+        }
+    }
+    let count = held.len().saturating_sub(free);
+    held.truncate(count);
+    Ok(held)
 }
 
 #[test]

@@ -49,6 +49,53 @@ const ROWS: [&str; 21] = [
     "sim-run",
 ];
 
+fn main(rt: HostRuntime) -> io::Result<ExitCode> {
+    let Some(of) = make_subject() else {
+        return Ok(ExitCode::from(Ending::Wrong("no such statement").code()));
+    };
+    let mut word = [0u8; 32];
+    let Some(length) = own_word(&rt, &mut word) else {
+        return Ok(ExitCode::from(do_all(&rt, &rt, &of)?));
+    };
+    let Some(name) = word.get(..length).and_then(row_of) else {
+        return Ok(ExitCode::from(Ending::Wrong("no such row").code()));
+    };
+    let ending = do_row(&rt, &rt, &of, name);
+    let _unsaid = println!(&rt; "{name}: {}", ending.word()).is_err();
+    Ok(ExitCode::from(ending.code()))
+}
+
+/// The name among the words of the program, and its length; none where there is no word. It takes
+/// no memory.
+fn own_word(host: &HostRuntime, word: &mut [u8; 32]) -> Option<usize> {
+    match host.arg(1, word) {
+        Ok(length) => Some(length),
+        Err(_) => None,
+    }
+}
+
+/// Does all calls, and prints how each ended: the code 0 where all ended as with ample memory.
+fn do_all<R: Wait + Clock>(rt: &R, host: &HostRuntime, of: &Subject) -> io::Result<u8> {
+    let mut code = 0;
+    for name in ROWS {
+        let ending = do_row(rt, host, of, name);
+        println!(host; "{name}: {}", ending.word())?;
+        code = code.max(ending.code());
+    }
+    Ok(code)
+}
+
+/// Does the call of that name.
+fn do_row<R: Wait + Clock>(rt: &R, host: &HostRuntime, of: &Subject, name: &str) -> Ending {
+    if let Some(ending) = do_pure(host, of, name) {
+        return ending;
+    }
+    match book_call(name) {
+        Some(call) => books::at_a_book(rt, host.alloc(), of, call),
+        None => books::opens_over_a_file(host, of),
+    }
+}
+
 /// Does the call of that name on values in memory alone; none where it isn't one of these.
 fn do_pure(rt: &HostRuntime, of: &Subject, name: &str) -> Option<Ending> {
     let alloc = rt.alloc();
@@ -84,37 +131,6 @@ fn book_call(name: &str) -> Option<BookCall> {
     })
 }
 
-/// Does the call of that name.
-fn do_row<R: Wait + Clock>(rt: &R, host: &HostRuntime, of: &Subject, name: &str) -> Ending {
-    if let Some(ending) = do_pure(host, of, name) {
-        return ending;
-    }
-    match book_call(name) {
-        Some(call) => books::at_a_book(rt, host.alloc(), of, call),
-        None => books::opens_over_a_file(host, of),
-    }
-}
-
-/// Does all calls, and prints how each ended: the code 0 where all ended as with ample memory.
-fn do_all<R: Wait + Clock>(rt: &R, host: &HostRuntime, of: &Subject) -> io::Result<u8> {
-    let mut code = 0;
-    for name in ROWS {
-        let ending = do_row(rt, host, of, name);
-        println!(host; "{name}: {}", ending.word())?;
-        code = code.max(ending.code());
-    }
-    Ok(code)
-}
-
-/// The name among the words of the program, and its length; none where there is no word. It takes
-/// no memory.
-fn own_word(host: &HostRuntime, word: &mut [u8; 32]) -> Option<usize> {
-    match host.arg(1, word) {
-        Ok(length) => Some(length),
-        Err(_) => None,
-    }
-}
-
 /// The row of that name; none where there is none.
 fn row_of(word: &[u8]) -> Option<&'static str> {
     for name in ROWS {
@@ -123,20 +139,4 @@ fn row_of(word: &[u8]) -> Option<&'static str> {
         }
     }
     None
-}
-
-fn main(rt: HostRuntime) -> io::Result<ExitCode> {
-    let Some(of) = make_subject() else {
-        return Ok(ExitCode::from(Ending::Wrong("no such statement").code()));
-    };
-    let mut word = [0u8; 32];
-    let Some(length) = own_word(&rt, &mut word) else {
-        return Ok(ExitCode::from(do_all(&rt, &rt, &of)?));
-    };
-    let Some(name) = word.get(..length).and_then(row_of) else {
-        return Ok(ExitCode::from(Ending::Wrong("no such row").code()));
-    };
-    let ending = do_row(&rt, &rt, &of, name);
-    let _unsaid = println!(&rt; "{name}: {}", ending.word()).is_err();
-    Ok(ExitCode::from(ending.code()))
 }

@@ -39,18 +39,6 @@ pub(crate) fn encodes(alloc: Global, of: &Subject) -> Ending {
     ending.if_so(out.as_slice() == FRAMES.as_slice(), "other bytes")
 }
 
-/// Returns `true` if these are an Idle and then five times that statement alone and twice in one
-/// frame.
-fn are_fifteen(out: &[Message], statement: Statement) -> bool {
-    out.len() == 11
-        && out.iter().enumerate().skip(1).all(|(at, it)| match it {
-            Message::Statement(said) => at % 2 == 1 && *said == statement,
-            Message::Statements(said) => at % 2 == 0
-                && said.as_slice() == [statement; 2].as_slice(),
-            _ => false,
-        })
-}
-
 /// A feeder that holds four bytes of a frame gets its rest, nine frames more and a part of another.
 pub(crate) fn feeds(alloc: Global, of: &Subject) -> Ending {
     let mut piece = [0u8; 145];
@@ -74,15 +62,16 @@ pub(crate) fn feeds(alloc: Global, of: &Subject) -> Ending {
     ending.if_so(are_fifteen(&out, of.initial), "other messages")
 }
 
-/// Members 0, 2 and 3 say their Ready; false where memory is refused.
-fn three_say(heard: &mut Broadcasts, of: &Subject) -> bool
-    requires { (broadcasts_size heard.old).n ≡ 4 }
-    ensures { broadcasts_size heard.new ≡ broadcasts_size heard.old }
-{
-    let first = heard.hear(0, &of.ready).is_ok();
-    let second = heard.hear(2, &of.ready).is_ok();
-    let third = heard.hear(3, &of.ready).is_ok();
-    first && second && third
+/// Returns `true` if these are an Idle and then five times that statement alone and twice in one
+/// frame.
+fn are_fifteen(out: &[Message], statement: Statement) -> bool {
+    out.len() == 11
+        && out.iter().enumerate().skip(1).all(|(at, it)| match it {
+            Message::Statement(said) => at % 2 == 1 && *said == statement,
+            Message::Statements(said) => at % 2 == 0
+                && said.as_slice() == [statement; 2].as_slice(),
+            _ => false,
+        })
 }
 
 /// News at a place that nobody spoke of, where another place has its Readys.
@@ -129,11 +118,15 @@ pub(crate) fn broadcasts_say(alloc: Global, of: &Subject) -> Ending {
     )
 }
 
-/// The place of origin 0 in that round and step.
-fn place(round: u8, step: u8) -> Option<Place>
-    ensures { IfSome result (λ p. p ≡ new_place 0 0 round step) }
+/// Members 0, 2 and 3 say their Ready; false where memory is refused.
+fn three_say(heard: &mut Broadcasts, of: &Subject) -> bool
+    requires { (broadcasts_size heard.old).n ≡ 4 }
+    ensures { broadcasts_size heard.new ≡ broadcasts_size heard.old }
 {
-    Place::new(0, 0, round, step)
+    let first = heard.hear(0, &of.ready).is_ok();
+    let second = heard.hear(2, &of.ready).is_ok();
+    let third = heard.hear(3, &of.ready).is_ok();
+    first && second && third
 }
 
 /// The first accepted value of a late step, where an early one has a value.
@@ -184,17 +177,11 @@ pub(crate) fn question_accepts(alloc: Global) -> Ending {
     )
 }
 
-/// Returns `true` if these are just that statement.
-fn are_just(records: &[Record], statement: Statement) -> bool {
-    records == [Record::Said(statement)].as_slice()
-}
-
-/// Returns `true` if the core is failed: it refuses to hear and to be proposed to, and has no
-/// verdict.
-fn is_failed(core: &mut Core, of: &Subject) -> bool {
-    let hears = matches!(core.hear(0, &of.initial, Toss(6)), Err(CoreFault::Failed));
-    let proposes = matches!(core.propose(0, true, Toss(7)), Err(CoreFault::Failed));
-    hears && proposes && core.verdict(0).is_none()
+/// The place of origin 0 in that round and step.
+fn place(round: u8, step: u8) -> Option<Place>
+    ensures { IfSome result (λ p. p ≡ new_place 0 0 round step) }
+{
+    Place::new(0, 0, round, step)
 }
 
 /// A core hears an Initial.
@@ -225,4 +212,17 @@ pub(crate) fn core_proposes(alloc: Global, of: &Subject) -> Ending {
         Err(CoreFault::Memory) => Ending::Refused.if_so(is_failed(&mut core, of), "not failed"),
         _ => Ending::Wrong("another answer"),
     }
+}
+
+/// Returns `true` if these are just that statement.
+fn are_just(records: &[Record], statement: Statement) -> bool {
+    records == [Record::Said(statement)].as_slice()
+}
+
+/// Returns `true` if the core is failed: it refuses to hear and to be proposed to, and has no
+/// verdict.
+fn is_failed(core: &mut Core, of: &Subject) -> bool {
+    let hears = matches!(core.hear(0, &of.initial, Toss(6)), Err(CoreFault::Failed));
+    let proposes = matches!(core.propose(0, true, Toss(7)), Err(CoreFault::Failed));
+    hears && proposes && core.verdict(0).is_none()
 }

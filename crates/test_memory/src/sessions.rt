@@ -10,19 +10,6 @@ use std::sync::Wait;
 use std::time::Clock;
 use wire::Version;
 
-/// A tosser that counts on from its last toss.
-#[derive(Drop)]
-struct Counting {
-    last: u64,
-}
-
-impl Tosser for Counting {
-    fn toss(&mut self) -> Toss {
-        self.last = self.last.wrapping_add(1);
-        Toss(self.last)
-    }
-}
-
 /// Member 0's Initial and its Echo of it, in one frame.
 const SAID: [u8; 18] = [0, 16, 4, 2, 1, 0, 0, 0, 1, 1, 1, 2, 0, 0, 0, 1, 1, 1];
 
@@ -33,26 +20,6 @@ const WELCOME: [u8; 11] = [0, 9, 2, 0, 0, 0, 0, 0, 0, 0, 0];
 const WRITTEN: [u8; 28] = [
     0, 16, 1, 2, 0, 0, 0, 0, 0, 0, 0, 7, 4, 1, 0, 1, 1, 2, 0, 8, 3, 1, 0, 0, 1, 1, 1, 1,
 ];
-
-/// A stream with that input; none where memory is refused.
-fn stream(alloc: Global, input: &[u8]) -> Option<MemStream> {
-    let mut stream = MemStream::new(alloc);
-    match stream.give(input) {
-        Ok(()) => Some(stream),
-        Err(_) => None,
-    }
-}
-
-/// Returns how a session ended.
-fn ending_of(why: LinkEnd) -> Ending {
-    match why {
-        LinkEnd::Ended => Ending::Ample,
-        LinkEnd::Memory => Ending::Refused,
-        LinkEnd::Stopped => Ending::Failed,
-        LinkEnd::Lost => Ending::Failed,
-        _ => Ending::Wrong("another end"),
-    }
-}
 
 /// A link is read that gives two statements in one frame: both were handed in, or none.
 pub(crate) fn reads<D: Disk + Drop, J: Naming, R: Wait + Clock>(
@@ -92,6 +59,19 @@ pub(crate) fn reads<D: Disk + Drop, J: Naming, R: Wait + Clock>(
     ending.if_so(is_so, "something else was handed in")
 }
 
+/// A tosser that counts on from its last toss.
+#[derive(Drop)]
+struct Counting {
+    last: u64,
+}
+
+impl Tosser for Counting {
+    fn toss(&mut self) -> Toss {
+        self.last = self.last.wrapping_add(1);
+        Toss(self.last)
+    }
+}
+
 /// The one statement of an outbox is written to a peer, at a hub that is shut: what is written
 /// begins the Hello and the frame.
 pub(crate) fn writes<D: Disk + Drop, J: Naming, R: Wait>(
@@ -116,4 +96,24 @@ pub(crate) fn writes<D: Disk + Drop, J: Naming, R: Wait>(
         _ => WRITTEN.starts_with(written),
     };
     ending.if_so(is_so, "other bytes")
+}
+
+/// A stream with that input; none where memory is refused.
+fn stream(alloc: Global, input: &[u8]) -> Option<MemStream> {
+    let mut stream = MemStream::new(alloc);
+    match stream.give(input) {
+        Ok(()) => Some(stream),
+        Err(_) => None,
+    }
+}
+
+/// Returns how a session ended.
+fn ending_of(why: LinkEnd) -> Ending {
+    match why {
+        LinkEnd::Ended => Ending::Ample,
+        LinkEnd::Memory => Ending::Refused,
+        LinkEnd::Stopped => Ending::Failed,
+        LinkEnd::Lost => Ending::Failed,
+        _ => Ending::Wrong("another end"),
+    }
 }

@@ -7,6 +7,24 @@ use sim::{Event, SimFault, Which, run};
 use std::alloc::Global;
 use terms::Size;
 
+/// A member that is alone decides for its own bit.
+pub(crate) fn runs(alloc: Global) -> Ending {
+    let Ok(size) = Size::new(1, 0, 1) else {
+        return Ending::Wrong("no such size");
+    };
+    let (Some(script), Some(disks)) = (script(alloc), disks(alloc)) else {
+        return Ending::Before;
+    };
+    match run(alloc, size, &[], disks, &script) {
+        Ok(outcome) => {
+            let is_so = outcome.verdicts.as_slice() == [(0, 0, 1, true)].as_slice();
+            Ending::Ample.if_so(is_so && outcome.marks.len() == 19, "another outcome")
+        }
+        Err(SimFault::Memory) => Ending::Refused,
+        Err(_) => Ending::Wrong("another fault"),
+    }
+}
+
 /// The script of a member that is alone: a proposal of One, and as many deliveries of its own
 /// statements as it says; none where memory is refused.
 fn script(alloc: Global) -> Option<Vec<Event>> {
@@ -40,23 +58,5 @@ fn disks(alloc: Global) -> Option<Vec<MemDisk>> {
     match disks.push(MemDisk::new(alloc)) {
         Ok(()) => Some(disks),
         Err(_) => None,
-    }
-}
-
-/// A member that is alone decides for its own bit.
-pub(crate) fn runs(alloc: Global) -> Ending {
-    let Ok(size) = Size::new(1, 0, 1) else {
-        return Ending::Wrong("no such size");
-    };
-    let (Some(script), Some(disks)) = (script(alloc), disks(alloc)) else {
-        return Ending::Before;
-    };
-    match run(alloc, size, &[], disks, &script) {
-        Ok(outcome) => {
-            let is_so = outcome.verdicts.as_slice() == [(0, 0, 1, true)].as_slice();
-            Ending::Ample.if_so(is_so && outcome.marks.len() == 19, "another outcome")
-        }
-        Err(SimFault::Memory) => Ending::Refused,
-        Err(_) => Ending::Wrong("another fault"),
     }
 }

@@ -29,13 +29,6 @@ pub(crate) struct Subject {
     ghost initial_of: { initial.place ≡ new_place 0 0 1 1 },
 }
 
-/// A statement of One at that origin, in step 1 of that round.
-fn said(kind: Kind, origin: u8, round: u8) -> Option<Statement>
-    ensures { IfSome result (λ s. s.place ≡ new_place 0 origin round 1) }
-{
-    Statement::new(kind, Place::new(0, origin, round, 1)?, Value::One)
-}
-
 /// Returns what the calls are about; there always is. It takes no memory.
 pub(crate) fn make_subject() -> Option<Subject>
     ensures { IfSome result (λ of. of.header.size.questions ≡ 1) }
@@ -52,4 +45,11 @@ pub(crate) fn make_subject() -> Option<Subject>
         far: said(Kind::Ready, 0, 32)?,
         far_echo: said(Kind::Echo, 0, 32)?,
     })
+}
+
+/// A statement of One at that origin, in step 1 of that round.
+fn said(kind: Kind, origin: u8, round: u8) -> Option<Statement>
+    ensures { IfSome result (λ s. s.place ≡ new_place 0 origin round 1) }
+{
+    Statement::new(kind, Place::new(0, origin, round, 1)?, Value::One)
 }

@@ -17,32 +17,43 @@ pub struct Desk {
     size: Option<Size>,
 }
 
-/// The words of a command.
-fn command_text(alloc: Global, command: Command) -> Option<String> {
-    match command {
-        Command::Propose { question, bit } => {
-            format!(in alloc; "PROPOSE {question} {}", u8::from(bit)).ok()
-        }
-        Command::Ask { question } => format!(in alloc; "ASK {question}").ok(),
-        Command::Await { question } => format!(in alloc; "AWAIT {question}").ok(),
-        Command::Status => format!(in alloc; "STATUS").ok(),
-        Command::Transcript { question } => format!(in alloc; "TRANSCRIPT {question}").ok(),
-        Command::Links => format!(in alloc; "LINKS").ok(),
-        Command::State { question } => format!(in alloc; "STATE {question}").ok(),
+impl Desk {
+    /// Of no cluster yet.
+    pub fn new(alloc: Global) -> Desk {
+        Desk { alloc, size: None }
     }
-}
 
-/// The state of a question in these words.
-fn state_of(words: &[&str]) -> Option<QuestionState> {
-    match words {
-        ["Unproposed"] => Some(QuestionState::Unproposed),
-        ["Open", round, step] => Some(QuestionState::Open {
-            round: round.parse().ok()?,
-            step: step.parse().ok()?,
-        }),
-        ["Spent"] => Some(QuestionState::Spent),
-        ["Decided", bit] => Some(QuestionState::Decided(*bit == "1")),
-        _ => None,
+    /// Plays a row.
+    pub fn told(&mut self, action: &str) -> Option<String> {
+        match action.strip_prefix("line") {
+            Some(line) => self.line(line.strip_prefix(" ").unwrap_or(line).as_bytes()),
+            None => self.word(action),
+        }
+    }
+
+    /// Plays a row that is one of these words.
+    fn word(&mut self, action: &str) -> Option<String> {
+        let words = words_of(self.alloc, action)?;
+        match words.as_slice() {
+            ["size", n, t, questions] => {
+                self.size = Some(size_of(n, t, questions)?);
+                Some(String::new(self.alloc))
+            }
+            ["bytes", digits] => {
+                let bytes = bytes_of(self.alloc, digits)?;
+                self.line(&bytes)
+            }
+            ["reply", words @ ..] => reply_of(words, self.size?)?.to_string(self.alloc).ok(),
+            _ => None,
+        }
+    }
+
+    /// Returns what a line asks for.
+    fn line(&self, line: &[u8]) -> Option<String> {
+        match parse(line, self.size?) {
+            Ok(command) => command_text(self.alloc, command),
+            Err(reply) => reply.to_string(self.alloc).ok(),
+        }
     }
 }
 
@@ -75,42 +86,31 @@ fn reply_of(words: &[&str], size: Size) -> Option<Reply> {
     }
 }
 
-impl Desk {
-    /// Of no cluster yet.
-    pub fn new(alloc: Global) -> Desk {
-        Desk { alloc, size: None }
+/// The state of a question in these words.
+fn state_of(words: &[&str]) -> Option<QuestionState> {
+    match words {
+        ["Unproposed"] => Some(QuestionState::Unproposed),
+        ["Open", round, step] => Some(QuestionState::Open {
+            round: round.parse().ok()?,
+            step: step.parse().ok()?,
+        }),
+        ["Spent"] => Some(QuestionState::Spent),
+        ["Decided", bit] => Some(QuestionState::Decided(*bit == "1")),
+        _ => None,
     }
+}
 
-    /// Returns what a line asks for.
-    fn line(&self, line: &[u8]) -> Option<String> {
-        match parse(line, self.size?) {
-            Ok(command) => command_text(self.alloc, command),
-            Err(reply) => reply.to_string(self.alloc).ok(),
+/// The words of a command.
+fn command_text(alloc: Global, command: Command) -> Option<String> {
+    match command {
+        Command::Propose { question, bit } => {
+            format!(in alloc; "PROPOSE {question} {}", u8::from(bit)).ok()
         }
-    }
-
-    /// Plays a row that is one of these words.
-    fn word(&mut self, action: &str) -> Option<String> {
-        let words = words_of(self.alloc, action)?;
-        match words.as_slice() {
-            ["size", n, t, questions] => {
-                self.size = Some(size_of(n, t, questions)?);
-                Some(String::new(self.alloc))
-            }
-            ["bytes", digits] => {
-                let bytes = bytes_of(self.alloc, digits)?;
-                self.line(&bytes)
-            }
-            ["reply", words @ ..] => reply_of(words, self.size?)?.to_string(self.alloc).ok(),
-            _ => None,
-        }
-    }
-
-    /// Plays a row.
-    pub fn told(&mut self, action: &str) -> Option<String> {
-        match action.strip_prefix("line") {
-            Some(line) => self.line(line.strip_prefix(" ").unwrap_or(line).as_bytes()),
-            None => self.word(action),
-        }
+        Command::Ask { question } => format!(in alloc; "ASK {question}").ok(),
+        Command::Await { question } => format!(in alloc; "AWAIT {question}").ok(),
+        Command::Status => format!(in alloc; "STATUS").ok(),
+        Command::Transcript { question } => format!(in alloc; "TRANSCRIPT {question}").ok(),
+        Command::Links => format!(in alloc; "LINKS").ok(),
+        Command::State { question } => format!(in alloc; "STATE {question}").ok(),
     }
 }

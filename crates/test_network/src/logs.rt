@@ -44,25 +44,153 @@ pub struct Logs {
     standing: Standing,
 }
 
-/// The version of that number.
-fn version_of(word: &str) -> Option<Version> {
-    match word {
-        "1" => Some(Version::One),
-        "2" => Some(Version::Two),
-        _ => None,
+impl Logs {
+    /// Of nothing yet.
+    pub fn new(alloc: Global) -> Logs {
+        Logs {
+            alloc,
+            refusals: Refusals::new(),
+            queue: Queue::new(alloc),
+            quota: Quota::new(),
+            crowd: Crowd::new(0),
+            slots: Slots::new(32),
+            standing: Standing::Greeting,
+        }
+    }
+
+    /// Plays a row.
+    pub fn told(&mut self, action: &str) -> Option<String> {
+        let words = words_of(self.alloc, action)?;
+        match words.as_slice() {
+            ["event", words @ ..] => line_of(self.alloc, event_of(words)?),
+            ["refused", cause, number, count, caller @ ..] => {
+                let (refusal, caller) = (refusal_of(cause, number)?, caller_of(caller)?);
+                let count = count.parse().ok()?;
+                let event = LogEvent::Refused(RefusalCount {
+                    refusal,
+                    caller,
+                    count,
+                });
+                line_of(self.alloc, event)
+            }
+            ["closed", host, slot, silent] => {
+                let (slot, silent) = (slot.parse().ok()?, silent.parse().ok()?);
+                let host = host.parse().ok();
+                line_of(self.alloc, LogEvent::ClientClosed { host, slot, silent })
+            }
+            ["refusals"] => {
+                self.refusals = Refusals::new();
+                self.nothing()
+            }
+            ["count", now, cause, number, member] => {
+                self.count(now, refusal_of(cause, number)?, member)
+            }
+            ["tosser", byte, records, place] => {
+                let (records, place) = (records.parse().ok()?, place.parse().ok()?);
+                let toss = tosser_for([byte.parse().ok()?; 32], records, place).toss();
+                format!(in self.alloc; "{:016x}", toss.0).ok()
+            }
+            ["due", now] => self.due(now.parse().ok()?),
+            ["queue"] => {
+                self.queue = Queue::new(self.alloc);
+                self.nothing()
+            }
+            ["put", count] => self.put(count.parse().ok()?),
+            ["drain"] => queue_text(self.alloc, &mut self.queue),
+            ["empty"] => format!(in self.alloc; "{}", self.queue.is_empty()).ok(),
+            words => self.seat(words),
+        }
+    }
+
+    /// A refusal comes.
+    fn count(&mut self, now: &str, refusal: Refusal, member: &str) -> Option<String> {
+        let caller = caller_of(&[member])?;
+        let (left, line) = self.refusals.count(now.parse().ok()?, refusal, caller);
+        let (left, line) = (count_text(self.alloc, left)?, count_text(self.alloc, line)?);
+        format!(in self.alloc; "{left}, {line}").ok()
+    }
+
+    /// Returns what is due at a second.
+    fn due(&mut self, now: u64) -> Option<String> {
+        let mut queue = Queue::new(self.alloc);
+        self.refusals.tell_due(now, &mut queue);
+        counts_text(self.alloc, &mut queue)
+    }
+
+    /// Puts so many decisions into the queue.
+    fn put(&mut self, count: u16) -> Option<String> {
+        for question in 0..count {
+            self.queue.put(LogEvent::Decided(question, true));
+        }
+        self.nothing()
+    }
+
+    /// Plays a row of the quota and the slots.
+    fn seat(&mut self, words: &[&str]) -> Option<String> {
+        match words {
+            ["quota"] => self.quota = Quota::new(),
+            ["leave"] => self.quota.leave(),
+            ["crowd", most] => self.crowd = Crowd::new(most.parse().ok()?),
+            ["goes"] => self.crowd.leave(),
+            ["slots", clients] => self.slots = Slots::new(clients.parse().ok()?),
+            ["heard", now, slot] => self.slots.hear(slot.parse().ok()?, now.parse().ok()?),
+            ["left", slot] => self.slots.put(slot.parse().ok()?),
+            ["enter"] => {
+                let enters = self.quota.enter();
+                return format!(in self.alloc; "{enters}").ok();
+            }
+            ["comes"] => {
+                let comes = self.crowd.enter();
+                return format!(in self.alloc; "{comes}").ok();
+            }
+            ["slot", now] => return self.slot(now.parse().ok()?),
+            ["standing"] => self.standing = Standing::Greeting,
+            ["reads"] => return self.stands(self.standing.read()),
+            ["writes"] => return self.stands(self.standing.written()),
+            _ => return None,
+        }
+        self.nothing()
+    }
+
+    /// Takes a slot.
+    fn slot(&mut self, now: u64) -> Option<String> {
+        match self.slots.take(now) {
+            Some(GivenSlot::Free(slot)) => format!(in self.alloc; "free {slot}").ok(),
+            Some(GivenSlot::InPlaceOf(slot, silent)) => {
+                format!(in self.alloc; "instead {slot} silent {silent}").ok()
+            }
+            None => format!(in self.alloc; "none").ok(),
+        }
+    }
+
+    /// Returns how far the link has come.
+    fn stands(&mut self, standing: Standing) -> Option<String> {
+        self.standing = standing;
+        format!(in self.alloc; "{standing:?} {}", standing.comes_up()).ok()
+    }
+
+    /// Returns what is said of a row that answers nothing.
+    fn nothing(&self) -> Option<String> {
+        Some(String::new(self.alloc))
     }
 }
 
-/// The end of a link of these words.
-fn end_of(words: &[&str]) -> Option<LinkEnd> {
+/// An event's line.
+fn line_of(alloc: Global, event: LogEvent) -> Option<String> {
+    format!(in alloc; "{event}").ok()
+}
+
+/// The event of these words.
+fn event_of(words: &[&str]) -> Option<LogEvent> {
     match words {
-        ["Lost"] => Some(LinkEnd::Lost),
-        ["OutOfOrder"] => Some(LinkEnd::OutOfOrder),
-        ["Stopped"] => Some(LinkEnd::Stopped),
-        ["Memory"] => Some(LinkEnd::Memory),
-        ["Broken", "BadValue"] => Some(LinkEnd::Broken(WireFault::BadValue)),
-        ["Broken", "BadCount"] => Some(LinkEnd::Broken(WireFault::BadCount)),
-        _ => None,
+        ["Ready", member] => Some(LogEvent::Ready(member.parse().ok()?)),
+        ["Decided", question, bit] => {
+            Some(LogEvent::Decided(question.parse().ok()?, *bit == "1"))
+        }
+        ["Stopped"] => Some(LogEvent::Stopped),
+        ["Missed", count] => Some(LogEvent::Missed(count.parse().ok()?)),
+        ["End"] => Some(LogEvent::End),
+        words => link_event(words),
     }
 }
 
@@ -89,23 +217,26 @@ fn link_event(words: &[&str]) -> Option<LogEvent> {
     }
 }
 
-/// The event of these words.
-fn event_of(words: &[&str]) -> Option<LogEvent> {
-    match words {
-        ["Ready", member] => Some(LogEvent::Ready(member.parse().ok()?)),
-        ["Decided", question, bit] => {
-            Some(LogEvent::Decided(question.parse().ok()?, *bit == "1"))
-        }
-        ["Stopped"] => Some(LogEvent::Stopped),
-        ["Missed", count] => Some(LogEvent::Missed(count.parse().ok()?)),
-        ["End"] => Some(LogEvent::End),
-        words => link_event(words),
+/// The version of that number.
+fn version_of(word: &str) -> Option<Version> {
+    match word {
+        "1" => Some(Version::One),
+        "2" => Some(Version::Two),
+        _ => None,
     }
 }
 
-/// An event's line.
-fn line_of(alloc: Global, event: LogEvent) -> Option<String> {
-    format!(in alloc; "{event}").ok()
+/// The end of a link of these words.
+fn end_of(words: &[&str]) -> Option<LinkEnd> {
+    match words {
+        ["Lost"] => Some(LinkEnd::Lost),
+        ["OutOfOrder"] => Some(LinkEnd::OutOfOrder),
+        ["Stopped"] => Some(LinkEnd::Stopped),
+        ["Memory"] => Some(LinkEnd::Memory),
+        ["Broken", "BadValue"] => Some(LinkEnd::Broken(WireFault::BadValue)),
+        ["Broken", "BadCount"] => Some(LinkEnd::Broken(WireFault::BadCount)),
+        _ => None,
+    }
 }
 
 /// The refusal of a cause and a host, or by a peer.
@@ -157,6 +288,18 @@ fn caller_of(words: &[&str]) -> Option<Option<Caller>> {
     }))
 }
 
+/// Returns what a queue has, and how many are missed.
+fn queue_text(alloc: Global, queue: &mut Queue) -> Option<String> {
+    let (events, missed) = queue.drain(alloc);
+    let count = events.len();
+    match (events.first(), events.last()) {
+        (Some(first), Some(last)) => {
+            format!(in alloc; "{count} missed {missed}: {first} to {last}").ok()
+        }
+        _ => format!(in alloc; "{count} missed {missed}").ok(),
+    }
+}
+
 /// Returns what is told of a refusal, in words: its cause, the host's last number or the peer's,
 /// the member and the count.
 fn count_text(alloc: Global, told: Option<RefusalCount>) -> Option<String> {
@@ -174,18 +317,6 @@ fn count_text(alloc: Global, told: Option<RefusalCount>) -> Option<String> {
     }
 }
 
-/// Returns what a queue has, and how many are missed.
-fn queue_text(alloc: Global, queue: &mut Queue) -> Option<String> {
-    let (events, missed) = queue.drain(alloc);
-    let count = events.len();
-    match (events.first(), events.last()) {
-        (Some(first), Some(last)) => {
-            format!(in alloc; "{count} missed {missed}: {first} to {last}").ok()
-        }
-        _ => format!(in alloc; "{count} missed {missed}").ok(),
-    }
-}
-
 /// The counts of refusals in a queue.
 fn counts_text(alloc: Global, queue: &mut Queue) -> Option<String> {
     let (events, _) = queue.drain(alloc);
@@ -199,135 +330,4 @@ fn counts_text(alloc: Global, queue: &mut Queue) -> Option<String> {
             .ok()?;
     }
     Some(text)
-}
-
-impl Logs {
-    /// Of nothing yet.
-    pub fn new(alloc: Global) -> Logs {
-        Logs {
-            alloc,
-            refusals: Refusals::new(),
-            queue: Queue::new(alloc),
-            quota: Quota::new(),
-            crowd: Crowd::new(0),
-            slots: Slots::new(32),
-            standing: Standing::Greeting,
-        }
-    }
-
-    /// Returns what is said of a row that answers nothing.
-    fn nothing(&self) -> Option<String> {
-        Some(String::new(self.alloc))
-    }
-
-    /// A refusal comes.
-    fn count(&mut self, now: &str, refusal: Refusal, member: &str) -> Option<String> {
-        let caller = caller_of(&[member])?;
-        let (left, line) = self.refusals.count(now.parse().ok()?, refusal, caller);
-        let (left, line) = (count_text(self.alloc, left)?, count_text(self.alloc, line)?);
-        format!(in self.alloc; "{left}, {line}").ok()
-    }
-
-    /// Returns what is due at a second.
-    fn due(&mut self, now: u64) -> Option<String> {
-        let mut queue = Queue::new(self.alloc);
-        self.refusals.tell_due(now, &mut queue);
-        counts_text(self.alloc, &mut queue)
-    }
-
-    /// Takes a slot.
-    fn slot(&mut self, now: u64) -> Option<String> {
-        match self.slots.take(now) {
-            Some(GivenSlot::Free(slot)) => format!(in self.alloc; "free {slot}").ok(),
-            Some(GivenSlot::InPlaceOf(slot, silent)) => {
-                format!(in self.alloc; "instead {slot} silent {silent}").ok()
-            }
-            None => format!(in self.alloc; "none").ok(),
-        }
-    }
-
-    /// Returns how far the link has come.
-    fn stands(&mut self, standing: Standing) -> Option<String> {
-        self.standing = standing;
-        format!(in self.alloc; "{standing:?} {}", standing.comes_up()).ok()
-    }
-
-    /// Puts so many decisions into the queue.
-    fn put(&mut self, count: u16) -> Option<String> {
-        for question in 0..count {
-            self.queue.put(LogEvent::Decided(question, true));
-        }
-        self.nothing()
-    }
-
-    /// Plays a row of the quota and the slots.
-    fn seat(&mut self, words: &[&str]) -> Option<String> {
-        match words {
-            ["quota"] => self.quota = Quota::new(),
-            ["leave"] => self.quota.leave(),
-            ["crowd", most] => self.crowd = Crowd::new(most.parse().ok()?),
-            ["goes"] => self.crowd.leave(),
-            ["slots", clients] => self.slots = Slots::new(clients.parse().ok()?),
-            ["heard", now, slot] => self.slots.hear(slot.parse().ok()?, now.parse().ok()?),
-            ["left", slot] => self.slots.put(slot.parse().ok()?),
-            ["enter"] => {
-                let enters = self.quota.enter();
-                return format!(in self.alloc; "{enters}").ok();
-            }
-            ["comes"] => {
-                let comes = self.crowd.enter();
-                return format!(in self.alloc; "{comes}").ok();
-            }
-            ["slot", now] => return self.slot(now.parse().ok()?),
-            ["standing"] => self.standing = Standing::Greeting,
-            ["reads"] => return self.stands(self.standing.read()),
-            ["writes"] => return self.stands(self.standing.written()),
-            _ => return None,
-        }
-        self.nothing()
-    }
-
-    /// Plays a row.
-    pub fn told(&mut self, action: &str) -> Option<String> {
-        let words = words_of(self.alloc, action)?;
-        match words.as_slice() {
-            ["event", words @ ..] => line_of(self.alloc, event_of(words)?),
-            ["refused", cause, number, count, caller @ ..] => {
-                let (refusal, caller) = (refusal_of(cause, number)?, caller_of(caller)?);
-                let count = count.parse().ok()?;
-                let event = LogEvent::Refused(RefusalCount {
-                    refusal,
-                    caller,
-                    count,
-                });
-                line_of(self.alloc, event)
-            }
-            ["closed", host, slot, silent] => {
-                let (slot, silent) = (slot.parse().ok()?, silent.parse().ok()?);
-                let host = host.parse().ok();
-                line_of(self.alloc, LogEvent::ClientClosed { host, slot, silent })
-            }
-            ["refusals"] => {
-                self.refusals = Refusals::new();
-                self.nothing()
-            }
-            ["count", now, cause, number, member] => {
-                self.count(now, refusal_of(cause, number)?, member)
-            }
-            ["tosser", byte, records, place] => {
-                let (records, place) = (records.parse().ok()?, place.parse().ok()?);
-                let toss = tosser_for([byte.parse().ok()?; 32], records, place).toss();
-                format!(in self.alloc; "{:016x}", toss.0).ok()
-            }
-            ["due", now] => self.due(now.parse().ok()?),
-            ["queue"] => {
-                self.queue = Queue::new(self.alloc);
-                self.nothing()
-            }
-            ["put", count] => self.put(count.parse().ok()?),
-            ["drain"] => queue_text(self.alloc, &mut self.queue),
-            ["empty"] => format!(in self.alloc; "{}", self.queue.is_empty()).ok(),
-            words => self.seat(words),
-        }
-    }
 }

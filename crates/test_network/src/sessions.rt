@@ -49,26 +49,6 @@ use terms::{Header, Record};
 use test_words::{bytes_of, header_of, records_text, words_of};
 use wire::Version;
 
-/// A tosser that counts on from its last toss.
-#[derive(Drop)]
-struct Counting {
-    last: u64,
-}
-
-impl Tosser for Counting {
-    fn toss(&mut self) -> Toss {
-        self.last = self.last.wrapping_add(1);
-        Toss(self.last)
-    }
-}
-
-/// Whose journal is made, and how many calls of the disk pass once it is open.
-#[derive(Clone, Copy, Drop)]
-struct Beginning {
-    header: Header,
-    passes: Option<u64>,
-}
-
 /// A member, and what happens to it.
 #[derive(Drop)]
 pub struct Sessions {
@@ -78,34 +58,99 @@ pub struct Sessions {
     rows: Vec<String>,
 }
 
-/// The version of that number.
-fn version_of(word: &str) -> Option<Version> {
-    match word {
-        "1" => Some(Version::One),
-        "2" => Some(Version::Two),
-        _ => None,
+impl Sessions {
+    /// Of no member yet.
+    pub fn new(alloc: Global) -> Sessions {
+        Sessions {
+            alloc,
+            beginning: None,
+            file: Vec::new(alloc),
+            rows: Vec::new(alloc),
+        }
+    }
+
+    /// Plays a row.
+    pub fn told<R: Wait + Clock>(&mut self, rt: &R, action: &str) -> Option<String> {
+        match words_of(self.alloc, action)?.as_slice() {
+            ["size", n, t, questions, "me", me] => {
+                self.begin(header_of(n, t, questions, me)?, None)
+            }
+            ["size", n, t, questions, "me", me, "passes", calls] => {
+                let calls = calls.parse().ok()?;
+                self.begin(header_of(n, t, questions, me)?, Some(calls))
+            }
+            ["size", n, t, questions, "me", me, "file", digits] => {
+                let bytes = bytes_of(self.alloc, digits)?;
+                self.begin(header_of(n, t, questions, me)?, None)?;
+                self.file.extend_from_slice(&bytes).ok()?;
+                nothing(self.alloc)
+            }
+            ["tossers", byte] => {
+                let beginning = self.beginning?;
+                tossers_text(self.alloc, (&beginning, &self.file), byte.parse().ok()?)
+            }
+            _ => self.go_on(rt, action),
+        }
+    }
+
+    /// Begins with another member.
+    fn begin(&mut self, header: Header, passes: Option<u64>) -> Option<String> {
+        self.beginning = Some(Beginning { header, passes });
+        self.file.clear();
+        self.rows.clear();
+        nothing(self.alloc)
+    }
+
+    /// Plays a row that isn't the first.
+    fn go_on<R: Wait + Clock>(&mut self, rt: &R, action: &str) -> Option<String> {
+        let alloc = self.alloc;
+        let ending = ending_of(action);
+        if matches!(ending, Ending::Told) {
+            self.rows.push(action.to_string(alloc).ok()?).ok()?;
+        }
+        if prepare(alloc, &mut Scant::new(alloc), action).is_some() {
+            return nothing(alloc);
+        }
+        let beginning = self.beginning?;
+        play_new(rt, alloc, (&beginning, &self.file), &self.rows, ending)
     }
 }
 
-/// The number of a version.
-fn version_number(version: Version) -> u8 {
-    match version {
-        Version::One => 1,
-        Version::Two => 2,
+/// The tossers of a member's life: how many there are, and the first toss of the last one, of links
+/// and of the desk.
+fn tossers_text(alloc: Global, (beginning, file): (&Beginning, &[u8]), byte: u8) -> Option<String> {
+    let member = start(alloc, beginning, file)?;
+    let Ok(mut tossers) = tossers_of(alloc, [byte; 32], &member) else {
+        return None;
+    };
+    let (links, slots) = (tossers.links.len(), tossers.desk.len());
+    let (link, slot) = match (tossers.links.last_mut(), tossers.desk.last_mut()) {
+        (Some(link), Some(slot)) => (link.toss(), slot.toss()),
+        _ => return None,
+    };
+    format!(in alloc; "{links} {:016x} {slots} {:016x}", link.0, slot.0).ok()
+}
+
+/// The ending that a row asks for.
+fn ending_of(action: &str) -> Ending {
+    match action {
+        "fits" => Ending::Fits,
+        "lacks" => Ending::Lacks,
+        _ => Ending::Told,
     }
 }
 
-/// Nothing is answered.
-fn nothing(alloc: Global) -> Option<String> {
-    Some(String::new(alloc))
-}
-
-/// Returns `true` if the disk has a journal then: that file, or a new one where it has no byte.
-fn is_prepared(disk: &mut MemDisk, header: &Header, file: &[u8]) -> bool {
-    if file.is_empty() {
-        return journal::create(disk, header).is_ok();
-    }
-    disk.write_at(0, file).is_ok() && disk.sync().is_ok()
+/// Plays all rows at a member on a new disk.
+fn play_new<R: Wait + Clock>(
+    rt: &R,
+    alloc: Global,
+    (beginning, file): (&Beginning, &[u8]),
+    rows: &[String],
+    ending: Ending,
+) -> Option<String> {
+    let member = start(alloc, beginning, file)?;
+    let board = board(alloc, beginning.header.size().questions())?;
+    play_at::<Brand, R>(rt, alloc, member, board, rows, ending)
 }
 
 /// A member on a new disk. Opening it takes three calls.
@@ -125,194 +170,92 @@ fn start(alloc: Global, beginning: &Beginning, file: &[u8]) -> Option<Member<Mem
     }
 }
 
-/// The tossers of a member's life: how many there are, and the first toss of the last one, of links
-/// and of the desk.
-fn tossers_text(alloc: Global, (beginning, file): (&Beginning, &[u8]), byte: u8) -> Option<String> {
-    let member = start(alloc, beginning, file)?;
-    let Ok(mut tossers) = tossers_of(alloc, [byte; 32], &member) else {
-        return None;
-    };
-    let (links, slots) = (tossers.links.len(), tossers.desk.len());
-    let (link, slot) = match (tossers.links.last_mut(), tossers.desk.last_mut()) {
-        (Some(link), Some(slot)) => (link.toss(), slot.toss()),
-        _ => return None,
-    };
-    format!(in alloc; "{links} {:016x} {slots} {:016x}", link.0, slot.0).ok()
+/// Whose journal is made, and how many calls of the disk pass once it is open.
+#[derive(Clone, Copy, Drop)]
+struct Beginning {
+    header: Header,
+    passes: Option<u64>,
 }
 
-/// A board for so many questions.
-fn board(alloc: Global, questions: u16) -> Option<NewBoard>
-    ensures { IfSome result (λ b. length b.cells ≡ questions) }
+/// Returns `true` if the disk has a journal then: that file, or a new one where it has no byte.
+fn is_prepared(disk: &mut MemDisk, header: &Header, file: &[u8]) -> bool {
+    if file.is_empty() {
+        return journal::create(disk, header).is_ok();
+    }
+    disk.write_at(0, file).is_ok() && disk.sync().is_ok()
+}
+
+/// Plays all rows at a member that was just opened: what the last one answers, or whether its seats
+/// fit then.
+fn play_at<J: Naming, R: Wait + Clock>(
+    rt: &R,
+    alloc: Global,
+    member: Member<MemDisk>,
+    board: NewBoard,
+    rows: &[String],
+    ending: Ending,
+) -> Option<String>
+    requires sound { IsSound memory_disk member }
+    requires fresh { MemberStandsFor member (member_saved member) [] }
+    requires header { member_header member ≡ J.header }
+    requires opening { member_saved member ≡ J.opening }
+    requires board { board ≡ J.names }
+    requires cells { length board.cells ≡ (member_header member).size.questions }
 {
-    NewBoard::new(alloc, questions).ok()
-}
-
-/// Returns how a session ended and what comes with that, and behind it what was written, whether it
-/// was left open, and how many bytes weren't read.
-fn ended(alloc: Global, how: String, scant: &Scant) -> Option<String> {
-    let stream = &scant.inner;
-    let written = hex::encode(alloc, stream.output()).ok()?;
-    let space = if written.is_empty() { "" } else { " " };
-    let open = if stream.is_closed() { "" } else { " open" };
-    match stream.left().len() {
-        0 => format!(in alloc; "{how}{space}{written}{open}").ok(),
-        left => format!(in alloc; "{how}{space}{written}{open} left {left}").ok(),
-    }
-}
-
-/// The session of a greeting.
-fn greets(alloc: Global, header: &Header, mut stream: Scant) -> Option<String> {
-    let how = match greet(alloc, &mut stream, header) {
-        Ok((from, version)) => format!(in alloc; "{from} {}", version_number(version)).ok()?,
-        Err(end) => format!(in alloc; "{end}").ok()?,
-    };
-    ended(alloc, how, &stream)
-}
-
-/// The session of a link from a peer, whose seat is put back.
-fn reads<J: Naming, R: Wait + Clock>(
-    rt: &R,
-    alloc: Global,
-    (hub, rack): (&Hub<MemDisk, J>, &Rack<J>),
-    peer: u8,
-    version: Version,
-    mut stream: Scant,
-) -> Option<String> {
-    let seat = rack.take(rt, peer)?;
-    let mut tosser = Counting {
-        last: u64::from(peer) * 100,
-    };
-    let (seat, end) = read_link(
-        rt,
-        alloc,
-        hub,
-        seat,
-        &mut stream,
-        version,
-        &OpenGate,
-        &mut tosser,
-    );
-    let next = seat.next();
-    rack.put(rt, seat);
-    let how = format!(in alloc; "{end} {next}").ok()?;
-    ended(alloc, how, &stream)
-}
-
-/// The session of a link to a peer.
-fn writes<J: Naming, R: Wait>(
-    rt: &R,
-    alloc: Global,
-    hub: &Hub<MemDisk, J>,
-    peer: u8,
-    version: Version,
-    mut stream: Scant,
-) -> Option<String> {
-    hub.shut(rt);
-    let (end, is_welcome) = write_link(rt, alloc, hub, peer, &mut stream, version, &OpenGate);
-    let how = format!(in alloc; "{end} {is_welcome}").ok()?;
-    ended(alloc, how, &stream)
-}
-
-/// A client's session.
-fn serves<J: Naming, R: Wait + Clock>(
-    rt: &R,
-    alloc: Global,
-    hub: &Hub<MemDisk, J>,
-    mut stream: Scant,
-) -> Option<String> {
-    let board: &Board = hub.board();
-    let mut pass = board.pass().ok()?;
-    let mut tosser = Counting { last: 9000 };
-    let turns = Turns::new();
-    let desk = Desk { hub, turns: &turns };
-    let end = serve(rt, desk, &mut pass, &mut tosser, &mut stream);
-    let mut text = Vec::new(alloc);
-    for byte in stream.inner.output() {
-        text.push(if *byte == b'\n' { b'|' } else { *byte }).ok()?;
-    }
-    let text = String::from_utf8(text).ok()?;
-    let space = if text.is_empty() { "" } else { " " };
-    format!(in alloc; "{end:?}{space}{text}").ok()
-}
-
-/// Proposes 0 and 1 in turn on so many questions.
-fn fills<J: Naming, R: Wait>(rt: &R, hub: &Hub<MemDisk, J>, count: u16) -> Option<()> {
-    let mut book = hub.lock(rt);
-    for question in 0..count {
-        book.propose(question, question % 2 == 1, Toss(0)).ok()?;
-    }
-    hub.post(rt, &book);
-    Some(())
-}
-
-/// The member hears so much of what it said.
-fn hears<J: Naming, R: Wait>(
-    rt: &R,
-    (hub, rack): (&Hub<MemDisk, J>, &Rack<J>),
-    count: u64,
-) -> Option<()> {
-    let mut seat = rack.take(rt, hub.header().me())?;
-    for number in 0..count {
-        let mut book = hub.lock(rt);
-        let items = book.pull(number, 1).ok()?;
-        if let [item] = items.as_slice() {
-            book.apply(&mut seat, &item.statement(), Toss(0)).ok()?;
-            hub.post(rt, &book);
+    let (hub, seats) = open::<J>(alloc, member, board)?;
+    let rack = Rack::new(seats);
+    let answer = play_all(rt, alloc, (&hub, &rack), rows)?;
+    let mut seats = rack.into_seats();
+    match ending {
+        Ending::Told => return Some(answer),
+        Ending::Fits => {}
+        Ending::Lacks => {
+            let _missing = seats.pop();
         }
     }
-    rack.put(rt, seat);
-    Some(())
+    let fits = close(hub, seats).is_ok();
+    format!(in alloc; "{fits}").ok()
 }
 
-/// The text of an event.
-fn entry_text(alloc: Global, entry: &Entry) -> Option<String> {
-    match entry {
-        Entry::Heard {
-            from,
-            statement,
-            toss,
-        } => {
-            let said = records_text(alloc, "", &[Record::Said(*statement)]).ok()?;
-            format!(in alloc; "{from} {said} {}", toss.0).ok()
-        }
-        Entry::Proposed {
-            question,
-            bit,
-            toss,
-        } => format!(in alloc; "{question} {} {}", u8::from(*bit), toss.0).ok(),
-    }
+/// How the rows end.
+#[derive(Clone, Copy)]
+enum Ending {
+    /// With what the last one answers.
+    Told,
+    /// With whether all seats fit.
+    Fits,
+    /// With whether all but one do.
+    Lacks,
 }
 
-/// The texts of all events.
-fn history_text<J: Naming>(alloc: Global, book: &Book<MemDisk, J>) -> Option<String> {
-    let mut text = String::new(alloc);
-    for at in 0..book.events() {
-        if at > 0 {
-            text.push_str(", ").ok()?;
-        }
-        let entry = book.event(at)?;
-        text.push_str(entry_text(alloc, &entry)?.as_str()).ok()?;
-    }
-    Some(text)
-}
-
-/// Returns what is answered of the member: none where the words ask nothing of it.
-fn looks<J: Naming, R: Wait>(
+/// Plays all rows, and gives what the last one answers.
+fn play_all<J: Naming, R: Wait + Clock>(
     rt: &R,
     alloc: Global,
-    hub: &Hub<MemDisk, J>,
-    words: &[&str],
+    at: (&Hub<MemDisk, J>, &Rack<J>),
+    rows: &[String],
 ) -> Option<String> {
-    let book = hub.lock(rt);
-    match words {
-        ["status"] => match book.status() {
-            Some((said, decided)) => format!(in alloc; "{said} {decided}").ok(),
-            None => format!(in alloc; "stopped").ok(),
-        },
-        ["records"] => records_text(alloc, "", book.records()).ok(),
-        ["history"] => history_text(alloc, &book),
-        _ => None,
+    let mut stream = Scant::new(alloc);
+    let mut answer = nothing(alloc)?;
+    for row in rows {
+        answer = play(rt, alloc, at, &mut stream, row.as_str())?;
     }
+    Some(answer)
+}
+
+/// Plays a row.
+fn play<J: Naming, R: Wait + Clock>(
+    rt: &R,
+    alloc: Global,
+    at: (&Hub<MemDisk, J>, &Rack<J>),
+    stream: &mut Scant,
+    row: &str,
+) -> Option<String> {
+    if prepare(alloc, stream, row).is_some() {
+        return nothing(alloc);
+    }
+    let words = words_of(alloc, row)?;
+    answers(rt, alloc, at, stream, &words)
 }
 
 /// Returns what a row answers that isn't of the next stream, which it takes where it is a session.
@@ -364,34 +307,87 @@ fn answers<J: Naming, R: Wait + Clock>(
     }
 }
 
-/// Plays a row.
-fn play<J: Naming, R: Wait + Clock>(
-    rt: &R,
-    alloc: Global,
-    at: (&Hub<MemDisk, J>, &Rack<J>),
-    stream: &mut Scant,
-    row: &str,
-) -> Option<String> {
-    if prepare(alloc, stream, row).is_some() {
-        return nothing(alloc);
-    }
-    let words = words_of(alloc, row)?;
-    answers(rt, alloc, at, stream, &words)
+/// The session of a greeting.
+fn greets(alloc: Global, header: &Header, mut stream: Scant) -> Option<String> {
+    let how = match greet(alloc, &mut stream, header) {
+        Ok((from, version)) => format!(in alloc; "{from} {}", version_number(version)).ok()?,
+        Err(end) => format!(in alloc; "{end}").ok()?,
+    };
+    ended(alloc, how, &stream)
 }
 
-/// Plays all rows, and gives what the last one answers.
-fn play_all<J: Naming, R: Wait + Clock>(
+/// The number of a version.
+fn version_number(version: Version) -> u8 {
+    match version {
+        Version::One => 1,
+        Version::Two => 2,
+    }
+}
+
+/// The version of that number.
+fn version_of(word: &str) -> Option<Version> {
+    match word {
+        "1" => Some(Version::One),
+        "2" => Some(Version::Two),
+        _ => None,
+    }
+}
+
+/// The session of a link from a peer, whose seat is put back.
+fn reads<J: Naming, R: Wait + Clock>(
     rt: &R,
     alloc: Global,
-    at: (&Hub<MemDisk, J>, &Rack<J>),
-    rows: &[String],
+    (hub, rack): (&Hub<MemDisk, J>, &Rack<J>),
+    peer: u8,
+    version: Version,
+    mut stream: Scant,
 ) -> Option<String> {
-    let mut stream = Scant::new(alloc);
-    let mut answer = nothing(alloc)?;
-    for row in rows {
-        answer = play(rt, alloc, at, &mut stream, row.as_str())?;
+    let seat = rack.take(rt, peer)?;
+    let mut tosser = Counting {
+        last: u64::from(peer) * 100,
+    };
+    let (seat, end) = read_link(
+        rt,
+        alloc,
+        hub,
+        seat,
+        &mut stream,
+        version,
+        &OpenGate,
+        &mut tosser,
+    );
+    let next = seat.next();
+    rack.put(rt, seat);
+    let how = format!(in alloc; "{end} {next}").ok()?;
+    ended(alloc, how, &stream)
+}
+
+/// The session of a link to a peer.
+fn writes<J: Naming, R: Wait>(
+    rt: &R,
+    alloc: Global,
+    hub: &Hub<MemDisk, J>,
+    peer: u8,
+    version: Version,
+    mut stream: Scant,
+) -> Option<String> {
+    hub.shut(rt);
+    let (end, is_welcome) = write_link(rt, alloc, hub, peer, &mut stream, version, &OpenGate);
+    let how = format!(in alloc; "{end} {is_welcome}").ok()?;
+    ended(alloc, how, &stream)
+}
+
+/// Returns how a session ended and what comes with that, and behind it what was written, whether it
+/// was left open, and how many bytes weren't read.
+fn ended(alloc: Global, how: String, scant: &Scant) -> Option<String> {
+    let stream = &scant.inner;
+    let written = hex::encode(alloc, stream.output()).ok()?;
+    let space = if written.is_empty() { "" } else { " " };
+    let open = if stream.is_closed() { "" } else { " open" };
+    match stream.left().len() {
+        0 => format!(in alloc; "{how}{space}{written}{open}").ok(),
+        left => format!(in alloc; "{how}{space}{written}{open} left {left}").ok(),
     }
-    Some(answer)
 }
 
 /// A hub over the member, and its seats.
@@ -413,125 +409,129 @@ fn open<J: Naming>(
     }
 }
 
-/// How the rows end.
-#[derive(Clone, Copy)]
-enum Ending {
-    /// With what the last one answers.
-    Told,
-    /// With whether all seats fit.
-    Fits,
-    /// With whether all but one do.
-    Lacks,
-}
-
-/// The ending that a row asks for.
-fn ending_of(action: &str) -> Ending {
-    match action {
-        "fits" => Ending::Fits,
-        "lacks" => Ending::Lacks,
-        _ => Ending::Told,
-    }
-}
-
-/// Plays all rows at a member that was just opened: what the last one answers, or whether its seats
-/// fit then.
-fn play_at<J: Naming, R: Wait + Clock>(
+/// A client's session.
+fn serves<J: Naming, R: Wait + Clock>(
     rt: &R,
     alloc: Global,
-    member: Member<MemDisk>,
-    board: NewBoard,
-    rows: &[String],
-    ending: Ending,
-) -> Option<String>
-    requires sound { IsSound memory_disk member }
-    requires fresh { MemberStandsFor member (member_saved member) [] }
-    requires header { member_header member ≡ J.header }
-    requires opening { member_saved member ≡ J.opening }
-    requires board { board ≡ J.names }
-    requires cells { length board.cells ≡ (member_header member).size.questions }
-{
-    let (hub, seats) = open::<J>(alloc, member, board)?;
-    let rack = Rack::new(seats);
-    let answer = play_all(rt, alloc, (&hub, &rack), rows)?;
-    let mut seats = rack.into_seats();
-    match ending {
-        Ending::Told => return Some(answer),
-        Ending::Fits => {}
-        Ending::Lacks => {
-            let _missing = seats.pop();
-        }
-    }
-    let fits = close(hub, seats).is_ok();
-    format!(in alloc; "{fits}").ok()
-}
-
-/// Plays all rows at a member on a new disk.
-fn play_new<R: Wait + Clock>(
-    rt: &R,
-    alloc: Global,
-    (beginning, file): (&Beginning, &[u8]),
-    rows: &[String],
-    ending: Ending,
+    hub: &Hub<MemDisk, J>,
+    mut stream: Scant,
 ) -> Option<String> {
-    let member = start(alloc, beginning, file)?;
-    let board = board(alloc, beginning.header.size().questions())?;
-    play_at::<Brand, R>(rt, alloc, member, board, rows, ending)
+    let board: &Board = hub.board();
+    let mut pass = board.pass().ok()?;
+    let mut tosser = Counting { last: 9000 };
+    let turns = Turns::new();
+    let desk = Desk { hub, turns: &turns };
+    let end = serve(rt, desk, &mut pass, &mut tosser, &mut stream);
+    let mut text = Vec::new(alloc);
+    for byte in stream.inner.output() {
+        text.push(if *byte == b'\n' { b'|' } else { *byte }).ok()?;
+    }
+    let text = String::from_utf8(text).ok()?;
+    let space = if text.is_empty() { "" } else { " " };
+    format!(in alloc; "{end:?}{space}{text}").ok()
 }
 
-impl Sessions {
-    /// Of no member yet.
-    pub fn new(alloc: Global) -> Sessions {
-        Sessions {
-            alloc,
-            beginning: None,
-            file: Vec::new(alloc),
-            rows: Vec::new(alloc),
+/// A board for so many questions.
+fn board(alloc: Global, questions: u16) -> Option<NewBoard>
+    ensures { IfSome result (λ b. length b.cells ≡ questions) }
+{
+    NewBoard::new(alloc, questions).ok()
+}
+
+/// A tosser that counts on from its last toss.
+#[derive(Drop)]
+struct Counting {
+    last: u64,
+}
+
+impl Tosser for Counting {
+    fn toss(&mut self) -> Toss {
+        self.last = self.last.wrapping_add(1);
+        Toss(self.last)
+    }
+}
+
+/// Proposes 0 and 1 in turn on so many questions.
+fn fills<J: Naming, R: Wait>(rt: &R, hub: &Hub<MemDisk, J>, count: u16) -> Option<()> {
+    let mut book = hub.lock(rt);
+    for question in 0..count {
+        book.propose(question, question % 2 == 1, Toss(0)).ok()?;
+    }
+    hub.post(rt, &book);
+    Some(())
+}
+
+/// Nothing is answered.
+fn nothing(alloc: Global) -> Option<String> {
+    Some(String::new(alloc))
+}
+
+/// The member hears so much of what it said.
+fn hears<J: Naming, R: Wait>(
+    rt: &R,
+    (hub, rack): (&Hub<MemDisk, J>, &Rack<J>),
+    count: u64,
+) -> Option<()> {
+    let mut seat = rack.take(rt, hub.header().me())?;
+    for number in 0..count {
+        let mut book = hub.lock(rt);
+        let items = book.pull(number, 1).ok()?;
+        if let [item] = items.as_slice() {
+            book.apply(&mut seat, &item.statement(), Toss(0)).ok()?;
+            hub.post(rt, &book);
         }
     }
+    rack.put(rt, seat);
+    Some(())
+}
 
-    /// Begins with another member.
-    fn begin(&mut self, header: Header, passes: Option<u64>) -> Option<String> {
-        self.beginning = Some(Beginning { header, passes });
-        self.file.clear();
-        self.rows.clear();
-        nothing(self.alloc)
+/// Returns what is answered of the member: none where the words ask nothing of it.
+fn looks<J: Naming, R: Wait>(
+    rt: &R,
+    alloc: Global,
+    hub: &Hub<MemDisk, J>,
+    words: &[&str],
+) -> Option<String> {
+    let book = hub.lock(rt);
+    match words {
+        ["status"] => match book.status() {
+            Some((said, decided)) => format!(in alloc; "{said} {decided}").ok(),
+            None => format!(in alloc; "stopped").ok(),
+        },
+        ["records"] => records_text(alloc, "", book.records()).ok(),
+        ["history"] => history_text(alloc, &book),
+        _ => None,
     }
+}
 
-    /// Plays a row that isn't the first.
-    fn go_on<R: Wait + Clock>(&mut self, rt: &R, action: &str) -> Option<String> {
-        let alloc = self.alloc;
-        let ending = ending_of(action);
-        if matches!(ending, Ending::Told) {
-            self.rows.push(action.to_string(alloc).ok()?).ok()?;
+/// The texts of all events.
+fn history_text<J: Naming>(alloc: Global, book: &Book<MemDisk, J>) -> Option<String> {
+    let mut text = String::new(alloc);
+    for at in 0..book.events() {
+        if at > 0 {
+            text.push_str(", ").ok()?;
         }
-        if prepare(alloc, &mut Scant::new(alloc), action).is_some() {
-            return nothing(alloc);
-        }
-        let beginning = self.beginning?;
-        play_new(rt, alloc, (&beginning, &self.file), &self.rows, ending)
+        let entry = book.event(at)?;
+        text.push_str(entry_text(alloc, &entry)?.as_str()).ok()?;
     }
+    Some(text)
+}
 
-    /// Plays a row.
-    pub fn told<R: Wait + Clock>(&mut self, rt: &R, action: &str) -> Option<String> {
-        match words_of(self.alloc, action)?.as_slice() {
-            ["size", n, t, questions, "me", me] => {
-                self.begin(header_of(n, t, questions, me)?, None)
-            }
-            ["size", n, t, questions, "me", me, "passes", calls] => {
-                let calls = calls.parse().ok()?;
-                self.begin(header_of(n, t, questions, me)?, Some(calls))
-            }
-            ["size", n, t, questions, "me", me, "file", digits] => {
-                let bytes = bytes_of(self.alloc, digits)?;
-                self.begin(header_of(n, t, questions, me)?, None)?;
-                self.file.extend_from_slice(&bytes).ok()?;
-                nothing(self.alloc)
-            }
-            ["tossers", byte] => {
-                let beginning = self.beginning?;
-                tossers_text(self.alloc, (&beginning, &self.file), byte.parse().ok()?)
-            }
-            _ => self.go_on(rt, action),
+/// The text of an event.
+fn entry_text(alloc: Global, entry: &Entry) -> Option<String> {
+    match entry {
+        Entry::Heard {
+            from,
+            statement,
+            toss,
+        } => {
+            let said = records_text(alloc, "", &[Record::Said(*statement)]).ok()?;
+            format!(in alloc; "{from} {said} {}", toss.0).ok()
         }
+        Entry::Proposed {
+            question,
+            bit,
+            toss,
+        } => format!(in alloc; "{question} {} {}", u8::from(*bit), toss.0).ok(),
     }
 }

@@ -53,21 +53,30 @@ impl Stream for Scant {
     }
 }
 
-/// Gives the stream bytes in pieces of so many.
-fn give_pieces(stream: &mut MemStream, bytes: &[u8], count: usize) -> Option<()> {
-    for piece in bytes.chunks(count.max(1)) {
-        stream.give(piece).ok()?;
+/// Prepares the next stream: none where the row says nothing of it.
+pub fn prepare(alloc: Global, scant: &mut Scant, row: &str) -> Option<()> {
+    if let Some(line) = row.strip_prefix("line ") {
+        let mut bytes = Vec::from_slice(alloc, line.as_bytes()).ok()?;
+        bytes.push(b'\n').ok()?;
+        return scant.inner.give(&bytes).ok();
     }
-    Some(())
+    let words = words_of(alloc, row)?;
+    match limit(scant, &words) {
+        Some(()) => Some(()),
+        None => give(alloc, &mut scant.inner, &words),
+    }
 }
 
-/// Gives the stream bytes so many times over, at once.
-fn give_times(alloc: Global, stream: &mut MemStream, bytes: &[u8], times: u32) -> Option<()> {
-    let mut all = Vec::new(alloc);
-    for _ in 0..times {
-        all.extend_from_slice(bytes).ok()?;
+/// Limits the next stream as the words say: none where they say nothing of it.
+fn limit(scant: &mut Scant, words: &[&str]) -> Option<()> {
+    match words {
+        ["take", count] => scant.inner.take_at_most(count.parse().ok()?),
+        ["fail", call] => scant.inner.fail_at(call.parse().ok()?).ok()?,
+        ["fail", "from", call] => scant.inner.fail_from(call.parse().ok()?),
+        ["none", "from", call] => scant.none_from = call.parse().ok()?,
+        _ => return None,
     }
-    stream.give(&all).ok()
+    Some(())
 }
 
 /// Gives the stream what the words say: none where they say nothing of it.
@@ -86,28 +95,19 @@ fn give(alloc: Global, stream: &mut MemStream, words: &[&str]) -> Option<()> {
     }
 }
 
-/// Limits the next stream as the words say: none where they say nothing of it.
-fn limit(scant: &mut Scant, words: &[&str]) -> Option<()> {
-    match words {
-        ["take", count] => scant.inner.take_at_most(count.parse().ok()?),
-        ["fail", call] => scant.inner.fail_at(call.parse().ok()?).ok()?,
-        ["fail", "from", call] => scant.inner.fail_from(call.parse().ok()?),
-        ["none", "from", call] => scant.none_from = call.parse().ok()?,
-        _ => return None,
+/// Gives the stream bytes so many times over, at once.
+fn give_times(alloc: Global, stream: &mut MemStream, bytes: &[u8], times: u32) -> Option<()> {
+    let mut all = Vec::new(alloc);
+    for _ in 0..times {
+        all.extend_from_slice(bytes).ok()?;
     }
-    Some(())
+    stream.give(&all).ok()
 }
 
-/// Prepares the next stream: none where the row says nothing of it.
-pub fn prepare(alloc: Global, scant: &mut Scant, row: &str) -> Option<()> {
-    if let Some(line) = row.strip_prefix("line ") {
-        let mut bytes = Vec::from_slice(alloc, line.as_bytes()).ok()?;
-        bytes.push(b'\n').ok()?;
-        return scant.inner.give(&bytes).ok();
+/// Gives the stream bytes in pieces of so many.
+fn give_pieces(stream: &mut MemStream, bytes: &[u8], count: usize) -> Option<()> {
+    for piece in bytes.chunks(count.max(1)) {
+        stream.give(piece).ok()?;
     }
-    let words = words_of(alloc, row)?;
-    match limit(scant, &words) {
-        Some(()) => Some(()),
-        None => give(alloc, &mut scant.inner, &words),
-    }
+    Some(())
 }

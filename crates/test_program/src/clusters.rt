@@ -23,77 +23,6 @@ pub struct Played {
     cluster: Option<Cluster>,
 }
 
-/// Returns which statement is delivered.
-fn which_of(word: &str) -> Option<Which> {
-    match word {
-        "next" => Some(Which::Next),
-        number => Some(Which::At(number.parse().ok()?)),
-    }
-}
-
-/// The event of these words.
-fn event_of(alloc: Global, words: &[&str]) -> Option<Event> {
-    match words {
-        ["propose", member, question, bit, toss] => Some(Event::Propose {
-            member: member.parse().ok()?,
-            question: question.parse().ok()?,
-            bit: *bit == "1",
-            toss: toss_of(alloc, toss)?,
-        }),
-        ["deliver", from, to, which, toss] => Some(Event::Deliver {
-            from: from.parse().ok()?,
-            to: to.parse().ok()?,
-            which: which_of(which)?,
-            toss: toss_of(alloc, toss)?,
-        }),
-        ["group", from, to, count, toss] => Some(Event::DeliverAll {
-            from: from.parse().ok()?,
-            to: to.parse().ok()?,
-            count: count.parse().ok()?,
-            toss: toss_of(alloc, toss)?,
-        }),
-        _ => None,
-    }
-}
-
-/// The numbers of liars.
-fn liars_of(alloc: Global, words: &[&str]) -> Option<Vec<u8>> {
-    let mut liars = Vec::new(alloc);
-    for word in words {
-        liars.push(word.parse().ok()?).ok()?;
-    }
-    Some(liars)
-}
-
-/// The records, as a list of their own.
-fn list_of(alloc: Global, records: &[Record]) -> Option<Vec<Vec<Record>>> {
-    let mut lists = Vec::new(alloc);
-    lists.push(Vec::from_slice(alloc, records).ok()?).ok()?;
-    Some(lists)
-}
-
-/// Plays an event, and tells what became of it.
-fn play(alloc: Global, cluster: &mut Cluster, event: Event) -> Option<String> {
-    let mark = match cluster.play(alloc, &event) {
-        Ok(mark) => mark,
-        Err(fault) => return format!(in alloc; "{fault}").ok(),
-    };
-    let saved = list_of(alloc, cluster.saved())?;
-    let events = [event];
-    let mut text = Vec::new(alloc);
-    write_trace(alloc, &events, &[mark], &saved, &mut text).ok()?;
-    let (_, told) = str::from_utf8(&text).ok()?.split_once(": ")?;
-    String::from_str(alloc, told.trim_end()).ok()
-}
-
-/// Returns how many there are, or the fault.
-fn count_text(alloc: Global, count: Result<usize, SimFault>) -> Option<String> {
-    match count {
-        Ok(count) => format!(in alloc; "{count}").ok(),
-        Err(fault) => format!(in alloc; "{fault}").ok(),
-    }
-}
-
 impl Played {
     /// Of no disk yet.
     pub fn new(alloc: Global) -> Played {
@@ -101,6 +30,32 @@ impl Played {
             alloc,
             disks: Vec::new(alloc),
             cluster: None,
+        }
+    }
+
+    /// Plays a row.
+    pub fn told(&mut self, action: &str) -> Option<String> {
+        let words = words_of(self.alloc, action)?;
+        match (words.as_slice(), &mut self.cluster) {
+            (["disks", count], _) => self.begin(count.parse().ok()?),
+            (["fuse" | "used", ..], _) => {
+                self.prepare(&words)?;
+                Some(String::new(self.alloc))
+            }
+            ([how @ ("run" | "open"), n, t, questions, liars @ ..], _) => {
+                let size = Size::new(n.parse().ok()?, t.parse().ok()?, questions.parse().ok()?);
+                let liars = liars_of(self.alloc, liars)?;
+                match *how {
+                    "run" => self.run(size.ok()?, &liars),
+                    _ => self.open(size.ok()?, &liars),
+                }
+            }
+            (["verdicts"], Some(cluster)) => {
+                let verdicts = cluster.verdicts(self.alloc);
+                count_text(self.alloc, verdicts.map(|verdicts| verdicts.len()))
+            }
+            (words, Some(cluster)) => play(self.alloc, cluster, event_of(self.alloc, words)?),
+            (_, None) => None,
         }
     }
 
@@ -147,30 +102,75 @@ impl Played {
             Err(fault) => format!(in self.alloc; "{fault}").ok(),
         }
     }
+}
 
-    /// Plays a row.
-    pub fn told(&mut self, action: &str) -> Option<String> {
-        let words = words_of(self.alloc, action)?;
-        match (words.as_slice(), &mut self.cluster) {
-            (["disks", count], _) => self.begin(count.parse().ok()?),
-            (["fuse" | "used", ..], _) => {
-                self.prepare(&words)?;
-                Some(String::new(self.alloc))
-            }
-            ([how @ ("run" | "open"), n, t, questions, liars @ ..], _) => {
-                let size = Size::new(n.parse().ok()?, t.parse().ok()?, questions.parse().ok()?);
-                let liars = liars_of(self.alloc, liars)?;
-                match *how {
-                    "run" => self.run(size.ok()?, &liars),
-                    _ => self.open(size.ok()?, &liars),
-                }
-            }
-            (["verdicts"], Some(cluster)) => {
-                let verdicts = cluster.verdicts(self.alloc);
-                count_text(self.alloc, verdicts.map(|verdicts| verdicts.len()))
-            }
-            (words, Some(cluster)) => play(self.alloc, cluster, event_of(self.alloc, words)?),
-            (_, None) => None,
-        }
+/// The numbers of liars.
+fn liars_of(alloc: Global, words: &[&str]) -> Option<Vec<u8>> {
+    let mut liars = Vec::new(alloc);
+    for word in words {
+        liars.push(word.parse().ok()?).ok()?;
+    }
+    Some(liars)
+}
+
+/// Returns how many there are, or the fault.
+fn count_text(alloc: Global, count: Result<usize, SimFault>) -> Option<String> {
+    match count {
+        Ok(count) => format!(in alloc; "{count}").ok(),
+        Err(fault) => format!(in alloc; "{fault}").ok(),
+    }
+}
+
+/// Plays an event, and tells what became of it.
+fn play(alloc: Global, cluster: &mut Cluster, event: Event) -> Option<String> {
+    let mark = match cluster.play(alloc, &event) {
+        Ok(mark) => mark,
+        Err(fault) => return format!(in alloc; "{fault}").ok(),
+    };
+    let saved = list_of(alloc, cluster.saved())?;
+    let events = [event];
+    let mut text = Vec::new(alloc);
+    write_trace(alloc, &events, &[mark], &saved, &mut text).ok()?;
+    let (_, told) = str::from_utf8(&text).ok()?.split_once(": ")?;
+    String::from_str(alloc, told.trim_end()).ok()
+}
+
+/// The records, as a list of their own.
+fn list_of(alloc: Global, records: &[Record]) -> Option<Vec<Vec<Record>>> {
+    let mut lists = Vec::new(alloc);
+    lists.push(Vec::from_slice(alloc, records).ok()?).ok()?;
+    Some(lists)
+}
+
+/// The event of these words.
+fn event_of(alloc: Global, words: &[&str]) -> Option<Event> {
+    match words {
+        ["propose", member, question, bit, toss] => Some(Event::Propose {
+            member: member.parse().ok()?,
+            question: question.parse().ok()?,
+            bit: *bit == "1",
+            toss: toss_of(alloc, toss)?,
+        }),
+        ["deliver", from, to, which, toss] => Some(Event::Deliver {
+            from: from.parse().ok()?,
+            to: to.parse().ok()?,
+            which: which_of(which)?,
+            toss: toss_of(alloc, toss)?,
+        }),
+        ["group", from, to, count, toss] => Some(Event::DeliverAll {
+            from: from.parse().ok()?,
+            to: to.parse().ok()?,
+            count: count.parse().ok()?,
+            toss: toss_of(alloc, toss)?,
+        }),
+        _ => None,
+    }
+}
+
+/// Returns which statement is delivered.
+fn which_of(word: &str) -> Option<Which> {
+    match word {
+        "next" => Some(Which::Next),
+        number => Some(Which::At(number.parse().ok()?)),
     }
 }

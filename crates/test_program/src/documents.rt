@@ -18,14 +18,6 @@ use settings::{Address, ClientSettings, Settings};
 use std::alloc::Global;
 use test_words::{header_text, words_of};
 
-/// A line of a document, and its name.
-#[derive(Drop)]
-struct Line {
-    name: String,
-    usual: String,
-    text: String,
-}
-
 /// A document, the settings that were read of it, and a disk.
 #[derive(Drop)]
 pub struct Document {
@@ -33,42 +25,6 @@ pub struct Document {
     lines: Vec<Line>,
     settings: Option<Settings>,
     disk: MemDisk,
-}
-
-/// Returns what is said of an address.
-fn address_text(alloc: Global, address: Address) -> Option<String> {
-    let [a, b, c, d] = address.octets;
-    format!(in alloc; "{a}.{b}.{c}.{d}:{}", address.port).ok()
-}
-
-/// Returns what is said of addresses, one after another.
-fn addresses_text(alloc: Global, addresses: &[Address]) -> Option<String> {
-    let mut text = String::new(alloc);
-    for address in addresses {
-        if !text.is_empty() {
-            text.push_str(" ").ok()?;
-        }
-        text.push_str(address_text(alloc, *address)?.as_str()).ok()?;
-    }
-    Some(text)
-}
-
-/// Returns what is said of a client's settings.
-fn client_text(alloc: Global, client: &ClientSettings) -> Option<String> {
-    let desks = addresses_text(alloc, &client.desks)?;
-    let cluster = client.cluster;
-    let size = client.size;
-    let (n, t, questions) = (size.n(), size.t(), size.questions());
-    let chain = if client.chain { " chain" } else { "" };
-    format!(in alloc; "{cluster} {n} {t} {questions} {desks}{chain}").ok()
-}
-
-/// The bytes of a disk.
-fn bytes_on(alloc: Global, disk: &mut MemDisk) -> Option<String> {
-    let len = disk.len().ok()?;
-    let mut bytes = vec![in alloc; 0; len].ok()?;
-    disk.read_at(0, &mut bytes).ok()?;
-    hex::encode(alloc, &bytes).ok()
 }
 
 impl Document {
@@ -79,6 +35,23 @@ impl Document {
             lines: Vec::new(alloc),
             settings: None,
             disk: MemDisk::new(alloc),
+        }
+    }
+
+    /// Plays a row.
+    pub fn told(&mut self, action: &str) -> Option<String> {
+        if let Some(text) = action.strip_prefix("address ") {
+            return match Address::parse(text) {
+                Some(address) => address_text(self.alloc, address),
+                None => format!(in self.alloc; "none").ok(),
+            };
+        }
+        match action.strip_prefix("line ") {
+            Some(rest) => match rest.split_once(' ') {
+                Some((name, text)) => self.put(name, text),
+                None => self.put(rest, ""),
+            },
+            None => self.word(action),
         }
     }
 
@@ -100,6 +73,30 @@ impl Document {
         Some(String::new(self.alloc))
     }
 
+    /// Plays a row that is one of these words.
+    fn word(&mut self, action: &str) -> Option<String> {
+        let words = words_of(self.alloc, action)?;
+        match words.as_slice() {
+            ["keep"] => self.keep(),
+            ["usual"] => self.restore(),
+            ["read"] => self.read(),
+            ["client"] => self.client(),
+            ["init"] => self.init(),
+            ["empty"] => {
+                self.disk = MemDisk::new(self.alloc);
+                Some(String::new(self.alloc))
+            }
+            ["fuse", calls] => {
+                self.disk = MemDisk::new(self.alloc);
+                self.disk.fuse(Some(calls.parse().ok()?));
+                Some(String::new(self.alloc))
+            }
+            ["file"] => bytes_on(self.alloc, &mut self.disk),
+            [key] => self.value(key),
+            _ => None,
+        }
+    }
+
     /// Has what stands be the usual lines.
     fn keep(&mut self) -> Option<String> {
         for line in self.lines.iter_mut() {
@@ -116,6 +113,27 @@ impl Document {
         Some(String::new(self.alloc))
     }
 
+    /// Reads it.
+    fn read(&mut self) -> Option<String> {
+        self.settings = None;
+        match Settings::parse(self.alloc, self.text()?.as_str()) {
+            Ok(settings) => {
+                let text = header_text(self.alloc, &settings.header);
+                self.settings = Some(settings);
+                text
+            }
+            Err(fault) => format!(in self.alloc; "{fault}").ok(),
+        }
+    }
+
+    /// Reads it as a client's settings.
+    fn client(&self) -> Option<String> {
+        match ClientSettings::parse(self.alloc, self.text()?.as_str()) {
+            Ok(client) => client_text(self.alloc, &client),
+            Err(fault) => format!(in self.alloc; "{fault}").ok(),
+        }
+    }
+
     /// The document.
     fn text(&self) -> Option<String> {
         let mut text = String::new(self.alloc);
@@ -128,17 +146,10 @@ impl Document {
         Some(text)
     }
 
-    /// Reads it.
-    fn read(&mut self) -> Option<String> {
-        self.settings = None;
-        match Settings::parse(self.alloc, self.text()?.as_str()) {
-            Ok(settings) => {
-                let text = header_text(self.alloc, &settings.header);
-                self.settings = Some(settings);
-                text
-            }
-            Err(fault) => format!(in self.alloc; "{fault}").ok(),
-        }
+    /// Makes the journal.
+    fn init(&mut self) -> Option<String> {
+        let settings = self.settings.as_ref()?;
+        ending(self.alloc, init_disk(&mut self.disk, settings))
     }
 
     /// A value of the settings.
@@ -170,59 +181,48 @@ impl Document {
             _ => None,
         }
     }
+}
 
-    /// Reads it as a client's settings.
-    fn client(&self) -> Option<String> {
-        match ClientSettings::parse(self.alloc, self.text()?.as_str()) {
-            Ok(client) => client_text(self.alloc, &client),
-            Err(fault) => format!(in self.alloc; "{fault}").ok(),
-        }
-    }
+/// A line of a document, and its name.
+#[derive(Drop)]
+struct Line {
+    name: String,
+    usual: String,
+    text: String,
+}
 
-    /// Makes the journal.
-    fn init(&mut self) -> Option<String> {
-        let settings = self.settings.as_ref()?;
-        ending(self.alloc, init_disk(&mut self.disk, settings))
-    }
+/// The bytes of a disk.
+fn bytes_on(alloc: Global, disk: &mut MemDisk) -> Option<String> {
+    let len = disk.len().ok()?;
+    let mut bytes = vec![in alloc; 0; len].ok()?;
+    disk.read_at(0, &mut bytes).ok()?;
+    hex::encode(alloc, &bytes).ok()
+}
 
-    /// Plays a row that is one of these words.
-    fn word(&mut self, action: &str) -> Option<String> {
-        let words = words_of(self.alloc, action)?;
-        match words.as_slice() {
-            ["keep"] => self.keep(),
-            ["usual"] => self.restore(),
-            ["read"] => self.read(),
-            ["client"] => self.client(),
-            ["init"] => self.init(),
-            ["empty"] => {
-                self.disk = MemDisk::new(self.alloc);
-                Some(String::new(self.alloc))
-            }
-            ["fuse", calls] => {
-                self.disk = MemDisk::new(self.alloc);
-                self.disk.fuse(Some(calls.parse().ok()?));
-                Some(String::new(self.alloc))
-            }
-            ["file"] => bytes_on(self.alloc, &mut self.disk),
-            [key] => self.value(key),
-            _ => None,
-        }
-    }
+/// Returns what is said of a client's settings.
+fn client_text(alloc: Global, client: &ClientSettings) -> Option<String> {
+    let desks = addresses_text(alloc, &client.desks)?;
+    let cluster = client.cluster;
+    let size = client.size;
+    let (n, t, questions) = (size.n(), size.t(), size.questions());
+    let chain = if client.chain { " chain" } else { "" };
+    format!(in alloc; "{cluster} {n} {t} {questions} {desks}{chain}").ok()
+}
 
-    /// Plays a row.
-    pub fn told(&mut self, action: &str) -> Option<String> {
-        if let Some(text) = action.strip_prefix("address ") {
-            return match Address::parse(text) {
-                Some(address) => address_text(self.alloc, address),
-                None => format!(in self.alloc; "none").ok(),
-            };
+/// Returns what is said of addresses, one after another.
+fn addresses_text(alloc: Global, addresses: &[Address]) -> Option<String> {
+    let mut text = String::new(alloc);
+    for address in addresses {
+        if !text.is_empty() {
+            text.push_str(" ").ok()?;
         }
-        match action.strip_prefix("line ") {
-            Some(rest) => match rest.split_once(' ') {
-                Some((name, text)) => self.put(name, text),
-                None => self.put(rest, ""),
-            },
-            None => self.word(action),
-        }
+        text.push_str(address_text(alloc, *address)?.as_str()).ok()?;
     }
+    Some(text)
+}
+
+/// Returns what is said of an address.
+fn address_text(alloc: Global, address: Address) -> Option<String> {
+    let [a, b, c, d] = address.octets;
+    format!(in alloc; "{a}.{b}.{c}.{d}:{}", address.port).ok()
 }

@@ -16,16 +16,30 @@ use system::Fault;
 use terms::{Memory, SizeFault};
 use test_words::{journal_fault, words_of};
 
-/// The fault of a size.
-fn size(name: &str) -> Option<SizeFault> {
-    match name {
-        "NoMembers" => Some(SizeFault::NoMembers),
-        "TooManyMembers" => Some(SizeFault::TooManyMembers),
-        "TooManyLiars" => Some(SizeFault::TooManyLiars),
-        "NoQuestions" => Some(SizeFault::NoQuestions),
-        "TooManyQuestions" => Some(SizeFault::TooManyQuestions),
+/// Plays a row.
+pub fn told(alloc: Global, action: &str) -> Option<String> {
+    let words = words_of(alloc, action)?;
+    match words.as_slice() {
+        ["SizeFault", name] => text_of(alloc, size(name)),
+        ["JournalFault", name] => text_of(alloc, journal_fault(name)),
+        ["CoreFault", name] => text_of(alloc, core(name)),
+        ["MemberFault", name] => text_of(alloc, member(name)),
+        ["SimFault", name] => text_of(alloc, sim(name)),
+        ["InitFault", name] => text_of(alloc, init(name)),
+        ["TalkFault", name] => text_of(alloc, talk(name)),
+        ["HearFault", words @ ..] => text_of(alloc, hear(words)),
+        ["ScriptFault", words @ ..] => text_of(alloc, script(words)),
+        ["DumpFault", words @ ..] => text_of(alloc, dump(words)),
+        ["SimulateFault", words @ ..] => text_of(alloc, simulate(words)),
+        ["Memory"] => text_of(alloc, Some(Memory)),
+        ["Fault", words @ ..] => ending_of(alloc, &program(alloc, words)?),
         _ => None,
     }
+}
+
+/// The text of a fault.
+fn text_of<F: Display + Drop>(alloc: Global, fault: Option<F>) -> Option<String> {
+    format!(in alloc; "{}", fault?).ok()
 }
 
 /// The fault of a core.
@@ -52,14 +66,45 @@ fn member(name: &str) -> Option<MemberFault> {
     }
 }
 
-/// The fault of a simulation.
-fn sim(name: &str) -> Option<SimFault> {
-    match name {
-        "BadLiars" => Some(SimFault::BadLiars),
-        "BadDisks" => Some(SimFault::BadDisks),
-        "Device" => Some(SimFault::Device),
-        "Memory" => Some(SimFault::Memory),
-        "Full" => Some(SimFault::Full),
+/// The status of a fault of the program, and its text.
+fn ending_of(alloc: Global, fault: &Fault) -> Option<String> {
+    format!(in alloc; "{} {fault}", fault.status()).ok()
+}
+
+/// The fault of the program.
+fn program(alloc: Global, words: &[&str]) -> Option<Fault> {
+    match words {
+        ["Argument", place] => Some(Fault::Argument(place.parse().ok()?)),
+        ["SameFile", path] => Some(Fault::SameFile(path.to_string(alloc).ok()?)),
+        ["Size", name] => Some(Fault::Size(size(name)?)),
+        ["File"] => Some(Fault::File),
+        ["Hosts"] => Some(Fault::Hosts),
+        ["Timeout"] => Some(Fault::Timeout),
+        ["Words"] => Some(Fault::Words),
+        ["Question"] => Some(Fault::Question),
+        ["Member"] => Some(Fault::Member),
+        ["First"] => Some(Fault::First),
+        ["Last"] => Some(Fault::Last),
+        ["Address"] => Some(Fault::Address),
+        ["Trace"] => Some(Fault::Trace),
+        ["Chart"] => Some(Fault::Chart),
+        ["Stream"] => Some(Fault::Stream),
+        ["Memory"] => Some(Fault::Memory),
+        words => becomes(words),
+    }
+}
+
+/// The fault of the program that another one becomes.
+fn becomes(words: &[&str]) -> Option<Fault> {
+    match words {
+        ["Hear", words @ ..] => Some(Fault::Hear(hear(words)?)),
+        ["Init", name] => Some(Fault::Init(init(name)?)),
+        ["Dump", words @ ..] => Some(Fault::Dump(dump(words)?)),
+        ["Simulate", words @ ..] => Some(Fault::Simulate(simulate(words)?)),
+        ["Talk", name] => Some(Fault::Talk(talk(name)?)),
+        ["Run", name] => Some(Fault::Run(run(name)?)),
+        ["Settings", name] => Some(Fault::Settings(settings(name)?)),
+        ["Journal", name] => Some(Fault::Journal(journal_fault(name)?)),
         _ => None,
     }
 }
@@ -75,13 +120,11 @@ fn hear(words: &[&str]) -> Option<HearFault> {
     }
 }
 
-/// The fault of a script.
-fn script(words: &[&str]) -> Option<ScriptFault> {
-    match words {
-        ["Line", number] => Some(ScriptFault::Line(number.parse().ok()?)),
-        ["Events"] => Some(ScriptFault::Events),
-        ["Size", name] => Some(ScriptFault::Size(size(name)?)),
-        ["Memory"] => Some(ScriptFault::Memory),
+/// The fault of `init`.
+fn init(name: &str) -> Option<InitFault> {
+    match name {
+        "NotEmpty" => Some(InitFault::NotEmpty),
+        "Device" => Some(InitFault::Device),
         _ => None,
     }
 }
@@ -112,11 +155,37 @@ fn simulate(words: &[&str]) -> Option<SimulateFault> {
     }
 }
 
-/// The fault of `init`.
-fn init(name: &str) -> Option<InitFault> {
+/// The fault of a simulation.
+fn sim(name: &str) -> Option<SimFault> {
     match name {
-        "NotEmpty" => Some(InitFault::NotEmpty),
-        "Device" => Some(InitFault::Device),
+        "BadLiars" => Some(SimFault::BadLiars),
+        "BadDisks" => Some(SimFault::BadDisks),
+        "Device" => Some(SimFault::Device),
+        "Memory" => Some(SimFault::Memory),
+        "Full" => Some(SimFault::Full),
+        _ => None,
+    }
+}
+
+/// The fault of a script.
+fn script(words: &[&str]) -> Option<ScriptFault> {
+    match words {
+        ["Line", number] => Some(ScriptFault::Line(number.parse().ok()?)),
+        ["Events"] => Some(ScriptFault::Events),
+        ["Size", name] => Some(ScriptFault::Size(size(name)?)),
+        ["Memory"] => Some(ScriptFault::Memory),
+        _ => None,
+    }
+}
+
+/// The fault of a size.
+fn size(name: &str) -> Option<SizeFault> {
+    match name {
+        "NoMembers" => Some(SizeFault::NoMembers),
+        "TooManyMembers" => Some(SizeFault::TooManyMembers),
+        "TooManyLiars" => Some(SizeFault::TooManyLiars),
+        "NoQuestions" => Some(SizeFault::NoQuestions),
+        "TooManyQuestions" => Some(SizeFault::TooManyQuestions),
         _ => None,
     }
 }
@@ -127,16 +196,6 @@ fn talk(name: &str) -> Option<TalkFault> {
         "NoAnswer" => Some(TalkFault::NoAnswer),
         "Stream" => Some(TalkFault::Stream),
         "Memory" => Some(TalkFault::Memory),
-        _ => None,
-    }
-}
-
-/// The fault of settings.
-fn settings(name: &str) -> Option<SettingsFault> {
-    match name {
-        "Text" => Some(SettingsFault::Text),
-        "Cluster" => Some(SettingsFault::Key(Key::Cluster)),
-        "Seed" => Some(SettingsFault::Key(Key::Seed)),
         _ => None,
     }
 }
@@ -154,71 +213,12 @@ fn run(name: &str) -> Option<RunFault> {
     }
 }
 
-/// The fault of the program that another one becomes.
-fn becomes(words: &[&str]) -> Option<Fault> {
-    match words {
-        ["Hear", words @ ..] => Some(Fault::Hear(hear(words)?)),
-        ["Init", name] => Some(Fault::Init(init(name)?)),
-        ["Dump", words @ ..] => Some(Fault::Dump(dump(words)?)),
-        ["Simulate", words @ ..] => Some(Fault::Simulate(simulate(words)?)),
-        ["Talk", name] => Some(Fault::Talk(talk(name)?)),
-        ["Run", name] => Some(Fault::Run(run(name)?)),
-        ["Settings", name] => Some(Fault::Settings(settings(name)?)),
-        ["Journal", name] => Some(Fault::Journal(journal_fault(name)?)),
-        _ => None,
-    }
-}
-
-/// The fault of the program.
-fn program(alloc: Global, words: &[&str]) -> Option<Fault> {
-    match words {
-        ["Argument", place] => Some(Fault::Argument(place.parse().ok()?)),
-        ["SameFile", path] => Some(Fault::SameFile(path.to_string(alloc).ok()?)),
-        ["Size", name] => Some(Fault::Size(size(name)?)),
-        ["File"] => Some(Fault::File),
-        ["Hosts"] => Some(Fault::Hosts),
-        ["Timeout"] => Some(Fault::Timeout),
-        ["Words"] => Some(Fault::Words),
-        ["Question"] => Some(Fault::Question),
-        ["Member"] => Some(Fault::Member),
-        ["First"] => Some(Fault::First),
-        ["Last"] => Some(Fault::Last),
-        ["Address"] => Some(Fault::Address),
-        ["Trace"] => Some(Fault::Trace),
-        ["Chart"] => Some(Fault::Chart),
-        ["Stream"] => Some(Fault::Stream),
-        ["Memory"] => Some(Fault::Memory),
-        words => becomes(words),
-    }
-}
-
-/// The status of a fault of the program, and its text.
-fn ending_of(alloc: Global, fault: &Fault) -> Option<String> {
-    format!(in alloc; "{} {fault}", fault.status()).ok()
-}
-
-/// The text of a fault.
-fn text_of<F: Display + Drop>(alloc: Global, fault: Option<F>) -> Option<String> {
-    format!(in alloc; "{}", fault?).ok()
-}
-
-/// Plays a row.
-pub fn told(alloc: Global, action: &str) -> Option<String> {
-    let words = words_of(alloc, action)?;
-    match words.as_slice() {
-        ["SizeFault", name] => text_of(alloc, size(name)),
-        ["JournalFault", name] => text_of(alloc, journal_fault(name)),
-        ["CoreFault", name] => text_of(alloc, core(name)),
-        ["MemberFault", name] => text_of(alloc, member(name)),
-        ["SimFault", name] => text_of(alloc, sim(name)),
-        ["InitFault", name] => text_of(alloc, init(name)),
-        ["TalkFault", name] => text_of(alloc, talk(name)),
-        ["HearFault", words @ ..] => text_of(alloc, hear(words)),
-        ["ScriptFault", words @ ..] => text_of(alloc, script(words)),
-        ["DumpFault", words @ ..] => text_of(alloc, dump(words)),
-        ["SimulateFault", words @ ..] => text_of(alloc, simulate(words)),
-        ["Memory"] => text_of(alloc, Some(Memory)),
-        ["Fault", words @ ..] => ending_of(alloc, &program(alloc, words)?),
+/// The fault of settings.
+fn settings(name: &str) -> Option<SettingsFault> {
+    match name {
+        "Text" => Some(SettingsFault::Text),
+        "Cluster" => Some(SettingsFault::Key(Key::Cluster)),
+        "Seed" => Some(SettingsFault::Key(Key::Seed)),
         _ => None,
     }
 }

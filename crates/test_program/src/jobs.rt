@@ -47,27 +47,17 @@ impl Job {
         }
     }
 
-    /// Returns what is said of a row that answers nothing.
-    fn nothing(&self) -> Option<String> {
-        Some(String::new(self.alloc))
-    }
-
-    /// Begins a command.
-    fn begin(&mut self, work: Work) -> Option<String> {
-        self.work = Some(work);
-        self.input.clear();
-        self.torn = false;
-        self.fuse = None;
-        self.output.clear();
-        self.sent.clear();
-        self.nothing()
-    }
-
-    /// Adds to the input.
-    fn add(&mut self, bytes: &[u8], end: &[u8]) -> Option<String> {
-        self.input.extend_from_slice(bytes).ok()?;
-        self.input.extend_from_slice(end).ok()?;
-        self.nothing()
+    /// Plays a row.
+    pub fn told(&mut self, action: &str) -> Option<String> {
+        if action.is_empty() {
+            return self.output.line(self.alloc);
+        }
+        match action.split_once(' ') {
+            Some(("<", line)) => self.add(line.as_bytes(), b"\n"),
+            Some(("many", row)) => self.add_many(row),
+            Some((how @ ("times" | "begins" | "closes"), text)) => self.look(how, text),
+            _ => self.word(action),
+        }
     }
 
     /// Adds a line so many times.
@@ -80,28 +70,18 @@ impl Job {
         self.nothing()
     }
 
-    /// Runs it, and tells how it ends.
-    fn run(&mut self) -> Option<String> {
-        let place = Place {
-            alloc: self.alloc,
-            bytes: self.input.as_slice(),
-            torn: self.torn,
-            fuse: self.fuse,
-        };
-        place.run(self.work?, &mut self.sent, &mut self.output)
-    }
-
-    /// Limits what it runs on: none where the words say nothing of that.
-    fn limit(&mut self, words: &[&str]) -> Option<String> {
-        match words {
-            ["torn"] => self.torn = true,
-            ["fuse", calls] => self.fuse = Some(calls.parse().ok()?),
-            ["room", count] => self.output.room = Room::Few(count.parse().ok()?),
-            ["shut"] => self.output.room = Room::Shut,
-            ["refused"] => self.sent.room = Room::Few(0),
-            _ => return None,
+    /// Returns what the output has of a text.
+    fn look(&self, how: &str, text: &str) -> Option<String> {
+        let output = self.output.text()?;
+        match how {
+            "times" => format!(in self.alloc; "{}", output.matches(text).count()).ok(),
+            "begins" => format!(in self.alloc; "{}", output.starts_with(text)).ok(),
+            "closes" => {
+                let front = output.strip_suffix("\n")?;
+                format!(in self.alloc; "{}", front.ends_with(text)).ok()
+            }
+            _ => None,
         }
-        self.nothing()
     }
 
     /// Plays a row that is one of these words.
@@ -125,30 +105,50 @@ impl Job {
         }
     }
 
-    /// Returns what the output has of a text.
-    fn look(&self, how: &str, text: &str) -> Option<String> {
-        let output = self.output.text()?;
-        match how {
-            "times" => format!(in self.alloc; "{}", output.matches(text).count()).ok(),
-            "begins" => format!(in self.alloc; "{}", output.starts_with(text)).ok(),
-            "closes" => {
-                let front = output.strip_suffix("\n")?;
-                format!(in self.alloc; "{}", front.ends_with(text)).ok()
-            }
-            _ => None,
-        }
+    /// Adds to the input.
+    fn add(&mut self, bytes: &[u8], end: &[u8]) -> Option<String> {
+        self.input.extend_from_slice(bytes).ok()?;
+        self.input.extend_from_slice(end).ok()?;
+        self.nothing()
     }
 
-    /// Plays a row.
-    pub fn told(&mut self, action: &str) -> Option<String> {
-        if action.is_empty() {
-            return self.output.line(self.alloc);
+    /// Runs it, and tells how it ends.
+    fn run(&mut self) -> Option<String> {
+        let place = Place {
+            alloc: self.alloc,
+            bytes: self.input.as_slice(),
+            torn: self.torn,
+            fuse: self.fuse,
+        };
+        place.run(self.work?, &mut self.sent, &mut self.output)
+    }
+
+    /// Begins a command.
+    fn begin(&mut self, work: Work) -> Option<String> {
+        self.work = Some(work);
+        self.input.clear();
+        self.torn = false;
+        self.fuse = None;
+        self.output.clear();
+        self.sent.clear();
+        self.nothing()
+    }
+
+    /// Limits what it runs on: none where the words say nothing of that.
+    fn limit(&mut self, words: &[&str]) -> Option<String> {
+        match words {
+            ["torn"] => self.torn = true,
+            ["fuse", calls] => self.fuse = Some(calls.parse().ok()?),
+            ["room", count] => self.output.room = Room::Few(count.parse().ok()?),
+            ["shut"] => self.output.room = Room::Shut,
+            ["refused"] => self.sent.room = Room::Few(0),
+            _ => return None,
         }
-        match action.split_once(' ') {
-            Some(("<", line)) => self.add(line.as_bytes(), b"\n"),
-            Some(("many", row)) => self.add_many(row),
-            Some((how @ ("times" | "begins" | "closes"), text)) => self.look(how, text),
-            _ => self.word(action),
-        }
+        self.nothing()
+    }
+
+    /// Returns what is said of a row that answers nothing.
+    fn nothing(&self) -> Option<String> {
+        Some(String::new(self.alloc))
     }
 }

@@ -18,60 +18,31 @@ use std::alloc::Global;
 use terms::{Size, Value};
 use trials::judge;
 
-/// The order of that name.
-fn order_of(name: &str) -> Option<Order> {
-    match name {
-        "random" => Some(Order::Random),
-        "adversary" => Some(Order::Adversary),
-        "links" => Some(Order::Links),
+/// Plays a row.
+pub fn told(alloc: Global, action: &str) -> Option<String> {
+    let (what, rest) = action.split_once(' ').unwrap_or((action, ""));
+    if what == "judge" {
+        return judged(alloc, rest);
+    }
+    let words: Vec<&str> = rest.split(' ').collect(alloc).ok()?;
+    match what {
+        "play" => played(alloc, &words),
+        "order" => ordered(alloc, &words),
+        "lie" => lied(alloc, &words),
+        "end" => ended(alloc, &words),
+        "table" => tabled(alloc, &words),
         _ => None,
     }
 }
 
-/// The size of these words.
-fn size_of(n: &str, t: &str) -> Option<Size> {
-    Size::new(n.parse().ok()?, t.parse().ok()?, 1).ok()
-}
-
-/// The value of a sign.
-fn value_of(sign: u8) -> Option<Value> {
-    match sign {
-        b'0' => Some(Value::Zero),
-        b'1' => Some(Value::One),
-        b'z' => Some(Value::SureZero),
-        b'o' => Some(Value::SureOne),
-        b'u' => Some(Value::Unsure),
-        _ => None,
-    }
-}
-
-/// The sign of a value.
-fn sign_of(value: Value) -> char {
-    match value {
-        Value::Zero => '0',
-        Value::One => '1',
-        Value::SureZero => 'z',
-        Value::SureOne => 'o',
-        Value::Unsure => 'u',
-    }
-}
-
-/// The values of these signs, at most 64.
-fn values_of(alloc: Global, signs: &str) -> Option<Vec<Option<Value>>> {
-    let mut values = Vec::new(alloc);
-    for sign in signs.as_bytes() {
-        values.push(value_of(*sign)).ok()?;
-    }
-    values.truncate(64);
-    Some(values)
-}
-
-/// The text of an end.
-fn end_text(alloc: Global, end: End) -> Option<String> {
-    match end {
-        End::Decided(round) => format!(in alloc; "decided {round}").ok(),
-        End::Open => format!(in alloc; "open").ok(),
-        End::TwoAnswers => format!(in alloc; "two answers").ok(),
+/// The judgement of a trace.
+fn judged(alloc: Global, rest: &str) -> Option<String> {
+    let (least, lines) = rest.split_once(' ').unwrap_or((rest, ""));
+    let trace = lines.replace(alloc, '|', "\n").ok()?;
+    let told = judge(alloc, trace.as_bytes(), least.parse().ok()?).ok()?;
+    match told.finding {
+        Some(finding) => format!(in alloc; "{} {finding}", told.decisions).ok(),
+        None => format!(in alloc; "{} fine", told.decisions).ok(),
     }
 }
 
@@ -91,30 +62,14 @@ fn played(alloc: Global, words: &[&str]) -> Option<String> {
     }
 }
 
-/// The step of a word, 1 to 3.
-fn step_of(word: &str) -> Option<u8>
-    ensures { IfSome result (λ step. (1 ≤ step) × (step ≤ 3)) }
-{
-    match word {
-        "1" => Some(1),
-        "2" => Some(2),
-        "3" => Some(3),
+/// The order of that name.
+fn order_of(name: &str) -> Option<Order> {
+    match name {
+        "random" => Some(Order::Random),
+        "adversary" => Some(Order::Adversary),
+        "links" => Some(Order::Links),
         _ => None,
     }
-}
-
-/// The adversary's order for this receiver, of values of at most 64 members.
-fn receiver_order(
-    alloc: Global,
-    size: Size,
-    step: u8,
-    values: &[Option<Value>],
-    receiver: u8,
-) -> Option<Vec<u8>> {
-    if values.len() > 64 {
-        return None;
-    }
-    strategy::order(alloc, size, step, values, receiver).ok()
 }
 
 /// The adversary's order.
@@ -137,6 +92,20 @@ fn ordered(alloc: Global, words: &[&str]) -> Option<String> {
     Some(text)
 }
 
+/// The adversary's order for this receiver, of values of at most 64 members.
+fn receiver_order(
+    alloc: Global,
+    size: Size,
+    step: u8,
+    values: &[Option<Value>],
+    receiver: u8,
+) -> Option<Vec<u8>> {
+    if values.len() > 64 {
+        return None;
+    }
+    strategy::order(alloc, size, step, values, receiver).ok()
+}
+
 /// A liar's value.
 fn lied(alloc: Global, words: &[&str]) -> Option<String> {
     let [n, t, step, signs] = words else {
@@ -149,13 +118,54 @@ fn lied(alloc: Global, words: &[&str]) -> Option<String> {
     format!(in alloc; "{}", sign_of(value)).ok()
 }
 
-/// The decision of a word, or none.
-fn verdict_of(word: &str) -> Option<Option<(u8, bool)>> {
-    if word == "-" {
-        return Some(None);
+/// The values of these signs, at most 64.
+fn values_of(alloc: Global, signs: &str) -> Option<Vec<Option<Value>>> {
+    let mut values = Vec::new(alloc);
+    for sign in signs.as_bytes() {
+        values.push(value_of(*sign)).ok()?;
     }
-    let (round, bit) = word.split_once(':')?;
-    Some(Some((round.parse().ok()?, bit == "1")))
+    values.truncate(64);
+    Some(values)
+}
+
+/// The value of a sign.
+fn value_of(sign: u8) -> Option<Value> {
+    match sign {
+        b'0' => Some(Value::Zero),
+        b'1' => Some(Value::One),
+        b'z' => Some(Value::SureZero),
+        b'o' => Some(Value::SureOne),
+        b'u' => Some(Value::Unsure),
+        _ => None,
+    }
+}
+
+/// The size of these words.
+fn size_of(n: &str, t: &str) -> Option<Size> {
+    Size::new(n.parse().ok()?, t.parse().ok()?, 1).ok()
+}
+
+/// The step of a word, 1 to 3.
+fn step_of(word: &str) -> Option<u8>
+    ensures { IfSome result (λ step. (1 ≤ step) × (step ≤ 3)) }
+{
+    match word {
+        "1" => Some(1),
+        "2" => Some(2),
+        "3" => Some(3),
+        _ => None,
+    }
+}
+
+/// The sign of a value.
+fn sign_of(value: Value) -> char {
+    match value {
+        Value::Zero => '0',
+        Value::One => '1',
+        Value::SureZero => 'z',
+        Value::SureOne => 'o',
+        Value::Unsure => 'u',
+    }
 }
 
 /// The end of a question.
@@ -167,9 +177,22 @@ fn ended(alloc: Global, words: &[&str]) -> Option<String> {
     end_text(alloc, end_of(&verdicts))
 }
 
-/// The text with `|` in place of the end of a line.
-fn flat(alloc: Global, text: &str) -> Option<String> {
-    text.trim_end().replace(alloc, '\n', "|").ok()
+/// The decision of a word, or none.
+fn verdict_of(word: &str) -> Option<Option<(u8, bool)>> {
+    if word == "-" {
+        return Some(None);
+    }
+    let (round, bit) = word.split_once(':')?;
+    Some(Some((round.parse().ok()?, bit == "1")))
+}
+
+/// The text of an end.
+fn end_text(alloc: Global, end: End) -> Option<String> {
+    match end {
+        End::Decided(round) => format!(in alloc; "decided {round}").ok(),
+        End::Open => format!(in alloc; "open").ok(),
+        End::TwoAnswers => format!(in alloc; "two answers").ok(),
+    }
 }
 
 /// The table of these ends.
@@ -186,30 +209,7 @@ fn tabled(alloc: Global, words: &[&str]) -> Option<String> {
     flat(alloc, table_text(alloc, &ends).ok()?.as_str())
 }
 
-/// The judgement of a trace.
-fn judged(alloc: Global, rest: &str) -> Option<String> {
-    let (least, lines) = rest.split_once(' ').unwrap_or((rest, ""));
-    let trace = lines.replace(alloc, '|', "\n").ok()?;
-    let told = judge(alloc, trace.as_bytes(), least.parse().ok()?).ok()?;
-    match told.finding {
-        Some(finding) => format!(in alloc; "{} {finding}", told.decisions).ok(),
-        None => format!(in alloc; "{} fine", told.decisions).ok(),
-    }
-}
-
-/// Plays a row.
-pub fn told(alloc: Global, action: &str) -> Option<String> {
-    let (what, rest) = action.split_once(' ').unwrap_or((action, ""));
-    if what == "judge" {
-        return judged(alloc, rest);
-    }
-    let words: Vec<&str> = rest.split(' ').collect(alloc).ok()?;
-    match what {
-        "play" => played(alloc, &words),
-        "order" => ordered(alloc, &words),
-        "lie" => lied(alloc, &words),
-        "end" => ended(alloc, &words),
-        "table" => tabled(alloc, &words),
-        _ => None,
-    }
+/// The text with `|` in place of the end of a line.
+fn flat(alloc: Global, text: &str) -> Option<String> {
+    text.trim_end().replace(alloc, '\n', "|").ok()
 }

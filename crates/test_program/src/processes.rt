@@ -17,71 +17,6 @@ use system::{
     wants_quiet,
 };
 
-/// An environment in which `BRACHA_QUIET` has this value, if it has one, and nothing else is.
-#[derive(Clone, Copy, Drop)]
-struct Quiet<'a>(Option<&'a [u8]>);
-
-impl Env for Quiet<'_> {
-    fn arg(&self, _place: usize, _buf: &mut [u8]) -> Result<usize, FillError> {
-        Err(FillError::NotPresent)
-    }
-
-    fn var(&self, name: &str, buf: &mut [u8]) -> Result<usize, FillError> {
-        let Some(value) = self.0 else {
-            return Err(FillError::NotPresent);
-        };
-        if name != "BRACHA_QUIET" {
-            return Err(FillError::NotPresent);
-        }
-        match buf.get_mut(..value.len()) {
-            Some(front) => {
-                front.copy_from_slice(value);
-                Ok(value.len())
-            }
-            None => Err(FillError::TooLong),
-        }
-    }
-
-    fn var_at(&self, _place: usize, _buf: &mut [u8]) -> Result<usize, FillError> {
-        Err(FillError::NotPresent)
-    }
-}
-
-/// The bytes of a file of these lines.
-fn file_of(alloc: Global, lines: &str) -> Option<Vec<u8>> {
-    let mut bytes = Vec::from_slice(alloc, lines.as_bytes()).ok()?;
-    for byte in bytes.iter_mut() {
-        if *byte == b'|' {
-            *byte = b'\n';
-        }
-    }
-    Some(bytes)
-}
-
-/// The number of a word, or `none`.
-fn files_of(word: &str) -> Option<Option<u64>> {
-    match word {
-        "none" => Some(None),
-        number => Some(Some(number.parse().ok()?)),
-    }
-}
-
-/// A number, or `none`.
-fn files_text(alloc: Global, files: Option<u64>) -> Option<String> {
-    match files {
-        Some(files) => format!(in alloc; "{files}").ok(),
-        None => format!(in alloc; "none").ok(),
-    }
-}
-
-/// Returns what is said of so many files, without the end of its line, or `enough`.
-fn lack_of(alloc: Global, files: u64, n: u8) -> Option<String> {
-    match descriptors_lack(alloc, files, n).ok()? {
-        Some(said) => format!(in alloc; "{}", said.as_str().trim_end()).ok(),
-        None => format!(in alloc; "enough").ok(),
-    }
-}
-
 /// Plays a row.
 pub fn told(alloc: Global, action: &str) -> Option<String> {
     let (what, rest) = action.split_once(' ').unwrap_or((action, ""));
@@ -112,5 +47,70 @@ pub fn told(alloc: Global, action: &str) -> Option<String> {
             lack_of(alloc, files.parse().ok()?, n.parse().ok()?)
         }
         _ => None,
+    }
+}
+
+/// An environment in which `BRACHA_QUIET` has this value, if it has one, and nothing else is.
+#[derive(Clone, Copy, Drop)]
+struct Quiet<'a>(Option<&'a [u8]>);
+
+impl Env for Quiet<'_> {
+    fn arg(&self, _place: usize, _buf: &mut [u8]) -> Result<usize, FillError> {
+        Err(FillError::NotPresent)
+    }
+
+    fn var(&self, name: &str, buf: &mut [u8]) -> Result<usize, FillError> {
+        let Some(value) = self.0 else {
+            return Err(FillError::NotPresent);
+        };
+        if name != "BRACHA_QUIET" {
+            return Err(FillError::NotPresent);
+        }
+        match buf.get_mut(..value.len()) {
+            Some(front) => {
+                front.copy_from_slice(value);
+                Ok(value.len())
+            }
+            None => Err(FillError::TooLong),
+        }
+    }
+
+    fn var_at(&self, _place: usize, _buf: &mut [u8]) -> Result<usize, FillError> {
+        Err(FillError::NotPresent)
+    }
+}
+
+/// A number, or `none`.
+fn files_text(alloc: Global, files: Option<u64>) -> Option<String> {
+    match files {
+        Some(files) => format!(in alloc; "{files}").ok(),
+        None => format!(in alloc; "none").ok(),
+    }
+}
+
+/// The bytes of a file of these lines.
+fn file_of(alloc: Global, lines: &str) -> Option<Vec<u8>> {
+    let mut bytes = Vec::from_slice(alloc, lines.as_bytes()).ok()?;
+    for byte in bytes.iter_mut() {
+        if *byte == b'|' {
+            *byte = b'\n';
+        }
+    }
+    Some(bytes)
+}
+
+/// The number of a word, or `none`.
+fn files_of(word: &str) -> Option<Option<u64>> {
+    match word {
+        "none" => Some(None),
+        number => Some(Some(number.parse().ok()?)),
+    }
+}
+
+/// Returns what is said of so many files, without the end of its line, or `enough`.
+fn lack_of(alloc: Global, files: u64, n: u8) -> Option<String> {
+    match descriptors_lack(alloc, files, n).ok()? {
+        Some(said) => format!(in alloc; "{}", said.as_str().trim_end()).ok(),
+        None => format!(in alloc; "enough").ok(),
     }
 }

@@ -17,111 +17,6 @@ use commands::{
 use std::alloc::Global;
 use test_words::{Output, words_of};
 
-/// The word of that name.
-fn word_named(name: &str) -> Option<Word> {
-    match name {
-        "silent" => Some(Word::Silent),
-        "undecided" => Some(Word::Undecided),
-        "other" => Some(Word::Other),
-        "0" => Some(Word::Decided(false)),
-        "1" => Some(Word::Decided(true)),
-        _ => None,
-    }
-}
-
-/// The name of a word.
-fn name_of(word: Word) -> &'static str {
-    match word {
-        Word::Silent => "silent",
-        Word::Undecided => "undecided",
-        Word::Other => "other",
-        Word::Decided(bit) => { if bit { "1" } else { "0" } }
-    }
-}
-
-/// The name of what a member is sent.
-fn next_name(next: Next) -> &'static str {
-    match next {
-        Next::Begin => "begin",
-        Next::Wait => "wait",
-        Next::End => "end",
-    }
-}
-
-/// The decision of that name.
-fn decision_named(name: &str) -> Option<Option<bool>> {
-    match name {
-        "none" => Some(None),
-        "0" => Some(Some(false)),
-        "1" => Some(Some(true)),
-        _ => None,
-    }
-}
-
-/// The answer to a reply.
-fn replied(alloc: Global, reply: &str) -> Option<String> {
-    let word = word_of(reply.as_bytes());
-    let (first, later) = (
-        next_name(next_of(word, true)),
-        next_name(next_of(word, false)),
-    );
-    format!(in alloc; "{} {first} {later}", name_of(word)).ok()
-}
-
-/// The answer to a decision and words.
-fn printed(alloc: Global, decision: Option<bool>, names: &[&str]) -> Option<String> {
-    let mut said = Vec::new(alloc);
-    for name in names {
-        said.push(word_named(name)?).ok()?;
-    }
-    let mut output = Output::new(alloc);
-    let status = tell_decision(alloc, decision, false, &mut output).ok()?;
-    let line = output.line(alloc)?;
-    let errors = remarks(alloc, &said, decision).ok()?;
-    let mut text = format!(in alloc; "{status} {line}").ok()?;
-    for error in errors.as_str().lines() {
-        text.push_str(" | ").ok()?;
-        text.push_str(error).ok()?;
-    }
-    Some(text)
-}
-
-/// The answer to a text.
-fn headed(alloc: Global, question: &str, text: &str) -> Option<String> {
-    let question: u16 = question.parse().ok()?;
-    let name = match transcript_bit(alloc, text.as_bytes(), question).ok()? {
-        None => "none",
-        Some(bit) => name_of(Word::Decided(bit)),
-    };
-    String::from_str(alloc, name).ok()
-}
-
-/// The word on its epochs of a member that replied so, or not at all.
-fn epochs_of(alloc: Global, reply: &str) -> Option<Told> {
-    if reply.is_empty() {
-        return Some(told_of(None));
-    }
-    let mut bytes = Vec::new(alloc);
-    bytes.extend_from_slice(reply.as_bytes()).ok()?;
-    Some(told_of(Some(bytes)))
-}
-
-/// The answer to replies to `EPOCHS`.
-fn closed(alloc: Global, replies: &str, json: bool) -> Option<String> {
-    let mut words = Vec::new(alloc);
-    for reply in replies.split('/') {
-        words.push(epochs_of(alloc, reply)?).ok()?;
-    }
-    let mut output = Output::new(alloc);
-    let status = tell_epochs(alloc, &words, json, &mut output).ok()?;
-    let mut text = format!(in alloc; "{status}").ok()?;
-    for line in output.text()?.lines() {
-        text.push_str(" | ").ok()?;
-        text.push_str(line).ok()?;
-    }
-    Some(text)
-}
-
 /// Plays a row.
 pub fn told(alloc: Global, action: &str) -> Option<String> {
     let (name, rest) = action.split_once(' ')?;
@@ -143,6 +38,111 @@ pub fn told(alloc: Global, action: &str) -> Option<String> {
             let names = words_of(alloc, names)?;
             printed(alloc, decision_named(decision)?, &names)
         }
+        _ => None,
+    }
+}
+
+/// The answer to a reply.
+fn replied(alloc: Global, reply: &str) -> Option<String> {
+    let word = word_of(reply.as_bytes());
+    let (first, later) = (
+        next_name(next_of(word, true)),
+        next_name(next_of(word, false)),
+    );
+    format!(in alloc; "{} {first} {later}", name_of(word)).ok()
+}
+
+/// The name of what a member is sent.
+fn next_name(next: Next) -> &'static str {
+    match next {
+        Next::Begin => "begin",
+        Next::Wait => "wait",
+        Next::End => "end",
+    }
+}
+
+/// The answer to a text.
+fn headed(alloc: Global, question: &str, text: &str) -> Option<String> {
+    let question: u16 = question.parse().ok()?;
+    let name = match transcript_bit(alloc, text.as_bytes(), question).ok()? {
+        None => "none",
+        Some(bit) => name_of(Word::Decided(bit)),
+    };
+    String::from_str(alloc, name).ok()
+}
+
+/// The name of a word.
+fn name_of(word: Word) -> &'static str {
+    match word {
+        Word::Silent => "silent",
+        Word::Undecided => "undecided",
+        Word::Other => "other",
+        Word::Decided(bit) => { if bit { "1" } else { "0" } }
+    }
+}
+
+/// The answer to replies to `EPOCHS`.
+fn closed(alloc: Global, replies: &str, json: bool) -> Option<String> {
+    let mut words = Vec::new(alloc);
+    for reply in replies.split('/') {
+        words.push(epochs_of(alloc, reply)?).ok()?;
+    }
+    let mut output = Output::new(alloc);
+    let status = tell_epochs(alloc, &words, json, &mut output).ok()?;
+    let mut text = format!(in alloc; "{status}").ok()?;
+    for line in output.text()?.lines() {
+        text.push_str(" | ").ok()?;
+        text.push_str(line).ok()?;
+    }
+    Some(text)
+}
+
+/// The word on its epochs of a member that replied so, or not at all.
+fn epochs_of(alloc: Global, reply: &str) -> Option<Told> {
+    if reply.is_empty() {
+        return Some(told_of(None));
+    }
+    let mut bytes = Vec::new(alloc);
+    bytes.extend_from_slice(reply.as_bytes()).ok()?;
+    Some(told_of(Some(bytes)))
+}
+
+/// The answer to a decision and words.
+fn printed(alloc: Global, decision: Option<bool>, names: &[&str]) -> Option<String> {
+    let mut said = Vec::new(alloc);
+    for name in names {
+        said.push(word_named(name)?).ok()?;
+    }
+    let mut output = Output::new(alloc);
+    let status = tell_decision(alloc, decision, false, &mut output).ok()?;
+    let line = output.line(alloc)?;
+    let errors = remarks(alloc, &said, decision).ok()?;
+    let mut text = format!(in alloc; "{status} {line}").ok()?;
+    for error in errors.as_str().lines() {
+        text.push_str(" | ").ok()?;
+        text.push_str(error).ok()?;
+    }
+    Some(text)
+}
+
+/// The word of that name.
+fn word_named(name: &str) -> Option<Word> {
+    match name {
+        "silent" => Some(Word::Silent),
+        "undecided" => Some(Word::Undecided),
+        "other" => Some(Word::Other),
+        "0" => Some(Word::Decided(false)),
+        "1" => Some(Word::Decided(true)),
+        _ => None,
+    }
+}
+
+/// The decision of that name.
+fn decision_named(name: &str) -> Option<Option<bool>> {
+    match name {
+        "none" => Some(None),
+        "0" => Some(Some(false)),
+        "1" => Some(Some(true)),
         _ => None,
     }
 }

@@ -28,63 +28,6 @@ pub struct Texts {
     output: Output,
 }
 
-/// The toss of an event that has one.
-fn toss_of(event: &Event) -> Option<Toss> {
-    match event {
-        Event::Propose { toss, .. }
-        | Event::Deliver { toss, .. }
-        | Event::DeliverAll { toss, .. }
-        | Event::LieBytes { toss, .. } => Some(*toss),
-        _ => None,
-    }
-}
-
-/// An event's line, and its toss.
-fn event_text(alloc: Global, event: &Event) -> Option<String> {
-    match toss_of(event) {
-        Some(toss) => format!(in alloc; "{event} {:016x}", toss.0).ok(),
-        None => format!(in alloc; "{event} -").ok(),
-    }
-}
-
-/// The mark of that name.
-pub fn mark_of(name: &str) -> Option<Mark> {
-    match name {
-        "done" => Some(Mark::Done),
-        "failed" => Some(Mark::Failed),
-        "no-such" => Some(Mark::Skipped(Reason::NoSuch)),
-        "wrong-side" => Some(Mark::Skipped(Reason::WrongSide)),
-        "not-up" => Some(Mark::Skipped(Reason::NotUp)),
-        "running" => Some(Mark::Skipped(Reason::Running)),
-        "nothing" => Some(Mark::Skipped(Reason::Nothing)),
-        _ => None,
-    }
-}
-
-/// Returns how many of the source's events are those of the list at their places.
-fn as_listed(alloc: Global, source: &mut Source, events: &[Event]) -> Result<usize, ScriptFault> {
-    let mut place = 0usize;
-    let mut same = 0usize;
-    'batches: while source.more(alloc)? {
-        for event in source.batch() {
-            if events.get(place) == Some(event) {
-                same = same.saturating_add(1);
-            }
-            place = place.saturating_add(1);
-        }
-    }
-    Ok(same)
-}
-
-/// Returns how many events a source of the text makes that are the script's, and whether its size
-/// and its liars are.
-fn compared(alloc: Global, text: &[u8], script: &Script) -> Result<(usize, bool), ScriptFault> {
-    let mut source = Source::of(alloc, text)?;
-    let is_alike = source.size() == script.size && source.liars() == script.liars.as_slice();
-    let same = as_listed(alloc, &mut source, &script.events)?;
-    Ok((same, is_alike))
-}
-
 impl Texts {
     /// Of no text yet.
     pub fn new(alloc: Global) -> Texts {
@@ -98,14 +41,19 @@ impl Texts {
         }
     }
 
-    /// Begins a text.
-    fn begin(&mut self) -> Option<String> {
-        self.text.clear();
-        self.script = None;
-        self.marks.clear();
-        self.saved = Vec::new(self.alloc);
-        self.output.clear();
-        Some(String::new(self.alloc))
+    /// Plays a row.
+    pub fn told(&mut self, action: &str) -> Option<String> {
+        if action.is_empty() {
+            return self.output.line(self.alloc);
+        }
+        match action.split_once(' ') {
+            Some(("<", line)) => self.add(1, line),
+            Some(("many", row)) => {
+                let (count, line) = row.split_once(' ')?;
+                self.add(count.parse().ok()?, line)
+            }
+            _ => self.word(action),
+        }
     }
 
     /// Adds a line so many times.
@@ -114,6 +62,38 @@ impl Texts {
             self.text.extend_from_slice(line.as_bytes()).ok()?;
             self.text.push(b'\n').ok()?;
         }
+        Some(String::new(self.alloc))
+    }
+
+    /// Plays a row that is one of these words.
+    fn word(&mut self, action: &str) -> Option<String> {
+        let words = words_of(self.alloc, action)?;
+        match words.as_slice() {
+            ["new"] => self.begin(),
+            ["read"] => self.read(),
+            ["liars"] => self.liars(),
+            ["event", number] => self.event(number.parse().ok()?),
+            ["source"] => self.source(),
+            ["unmarked"] => {
+                self.marks.clear();
+                self.saved = Vec::new(self.alloc);
+                Some(String::new(self.alloc))
+            }
+            ["marks", names @ ..] => self.mark(names),
+            ["saves", records @ ..] => self.save(records),
+            ["trace"] => self.trace(),
+            ["no", "more"] if self.output.is_told() => Some(String::new(self.alloc)),
+            _ => None,
+        }
+    }
+
+    /// Begins a text.
+    fn begin(&mut self) -> Option<String> {
+        self.text.clear();
+        self.script = None;
+        self.marks.clear();
+        self.saved = Vec::new(self.alloc);
+        self.output.clear();
         Some(String::new(self.alloc))
     }
 
@@ -189,41 +169,61 @@ impl Texts {
         .ok()?;
         Some(String::new(self.alloc))
     }
+}
 
-    /// Plays a row that is one of these words.
-    fn word(&mut self, action: &str) -> Option<String> {
-        let words = words_of(self.alloc, action)?;
-        match words.as_slice() {
-            ["new"] => self.begin(),
-            ["read"] => self.read(),
-            ["liars"] => self.liars(),
-            ["event", number] => self.event(number.parse().ok()?),
-            ["source"] => self.source(),
-            ["unmarked"] => {
-                self.marks.clear();
-                self.saved = Vec::new(self.alloc);
-                Some(String::new(self.alloc))
+/// An event's line, and its toss.
+fn event_text(alloc: Global, event: &Event) -> Option<String> {
+    match toss_of(event) {
+        Some(toss) => format!(in alloc; "{event} {:016x}", toss.0).ok(),
+        None => format!(in alloc; "{event} -").ok(),
+    }
+}
+
+/// The toss of an event that has one.
+fn toss_of(event: &Event) -> Option<Toss> {
+    match event {
+        Event::Propose { toss, .. }
+        | Event::Deliver { toss, .. }
+        | Event::DeliverAll { toss, .. }
+        | Event::LieBytes { toss, .. } => Some(*toss),
+        _ => None,
+    }
+}
+
+/// Returns how many events a source of the text makes that are the script's, and whether its size
+/// and its liars are.
+fn compared(alloc: Global, text: &[u8], script: &Script) -> Result<(usize, bool), ScriptFault> {
+    let mut source = Source::of(alloc, text)?;
+    let is_alike = source.size() == script.size && source.liars() == script.liars.as_slice();
+    let same = as_listed(alloc, &mut source, &script.events)?;
+    Ok((same, is_alike))
+}
+
+/// Returns how many of the source's events are those of the list at their places.
+fn as_listed(alloc: Global, source: &mut Source, events: &[Event]) -> Result<usize, ScriptFault> {
+    let mut place = 0usize;
+    let mut same = 0usize;
+    'batches: while source.more(alloc)? {
+        for event in source.batch() {
+            if events.get(place) == Some(event) {
+                same = same.saturating_add(1);
             }
-            ["marks", names @ ..] => self.mark(names),
-            ["saves", records @ ..] => self.save(records),
-            ["trace"] => self.trace(),
-            ["no", "more"] if self.output.is_told() => Some(String::new(self.alloc)),
-            _ => None,
+            place = place.saturating_add(1);
         }
     }
+    Ok(same)
+}
 
-    /// Plays a row.
-    pub fn told(&mut self, action: &str) -> Option<String> {
-        if action.is_empty() {
-            return self.output.line(self.alloc);
-        }
-        match action.split_once(' ') {
-            Some(("<", line)) => self.add(1, line),
-            Some(("many", row)) => {
-                let (count, line) = row.split_once(' ')?;
-                self.add(count.parse().ok()?, line)
-            }
-            _ => self.word(action),
-        }
+/// The mark of that name.
+pub fn mark_of(name: &str) -> Option<Mark> {
+    match name {
+        "done" => Some(Mark::Done),
+        "failed" => Some(Mark::Failed),
+        "no-such" => Some(Mark::Skipped(Reason::NoSuch)),
+        "wrong-side" => Some(Mark::Skipped(Reason::WrongSide)),
+        "not-up" => Some(Mark::Skipped(Reason::NotUp)),
+        "running" => Some(Mark::Skipped(Reason::Running)),
+        "nothing" => Some(Mark::Skipped(Reason::Nothing)),
+        _ => None,
     }
 }

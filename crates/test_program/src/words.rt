@@ -12,12 +12,17 @@ use command_line::{
 use std::alloc::Global;
 use test_words::words_of;
 
-/// An option of a task: its name, and its value, if it was given.
-#[derive(Clone, Copy)]
-enum Part<'a> {
-    Flag(&'static str, bool),
-    Text(&'static str, Option<&'a str>),
-    Number(&'static str, Option<u32>),
+/// Plays a row.
+pub fn told(alloc: Global, action: &str) -> Option<String> {
+    let words = words_of(alloc, action)?;
+    match asked(alloc, words.as_slice()) {
+        Ok(request) => {
+            let quiet = if request.quiet { "quiet " } else { "" };
+            let task = task_text(alloc, request.task)?;
+            format!(in alloc; "{quiet}{task}").ok()
+        }
+        Err(status) => format!(in alloc; "ends {status}").ok(),
+    }
 }
 
 /// Returns what is asked for, or the status with which the program ends.
@@ -28,25 +33,64 @@ fn asked<'a>(alloc: Global, words: &'a [&'a str]) -> Result<Request<'a>, i32> {
     }
 }
 
-/// Returns the text of a part: nothing where it wasn't asked for.
-fn part_text(alloc: Global, part: Part<'_>) -> Option<String> {
-    match part {
-        Part::Flag(name, true) => format!(in alloc; " {name}").ok(),
-        Part::Text(name, Some(value)) => format!(in alloc; " {name} {value}").ok(),
-        Part::Number(name, Some(value)) => format!(in alloc; " {name} {value}").ok(),
-        Part::Flag(_, false) | Part::Text(_, None) | Part::Number(_, None) => {
-            Some(String::new(alloc))
+/// The text of a task.
+fn task_text(alloc: Global, task: Task<'_>) -> Option<String> {
+    match task {
+        Task::NewCluster(words) => founding(alloc, words),
+        Task::Init(words) => format!(in alloc; "init {}", words.settings).ok(),
+        Task::Run(words) => running(alloc, words),
+        Task::Propose(words) => proposal(alloc, words),
+        Task::Ask(words) => asking(alloc, words),
+        Task::Decide(words) => deciding(alloc, words),
+        Task::Status(words) => standing(alloc, words),
+        Task::Transcript(words) => hearsay(alloc, words),
+        Task::Audit(words) => auditing(alloc, words),
+        Task::Migrate(words) => format!(in alloc; "migrate {} {}", words.old, words.new).ok(),
+        Task::Simulate(words) => simulating(alloc, words),
+        Task::Rounds(words) => measuring(alloc, words),
+        Task::Hear(it) => {
+            format!(in alloc; "hear {} {} {} {}", it.n, it.t, it.questions, it.me).ok()
         }
+        Task::Check(words) => checking(alloc, words),
+        Task::Dump(words) => dumping(alloc, words),
+        Task::Gateway(words) => serving(alloc, words),
+        Task::Epochs(words) => closing(alloc, words),
     }
 }
 
-/// Returns the text with that of each part behind it.
-fn with(alloc: Global, mut text: String, parts: &[Part<'_>]) -> Option<String> {
-    for part in parts {
-        let more = part_text(alloc, *part)?;
-        text.push_str(more.as_str()).ok()?;
-    }
-    Some(text)
+/// The text of a new cluster.
+fn founding(alloc: Global, words: NewClusterWords<'_>) -> Option<String> {
+    let NewClusterWords {
+        n,
+        t,
+        questions,
+        cluster,
+        folder,
+        ..
+    } = words;
+    let text = format!(in alloc; "new-cluster {n} {t} {questions} {cluster} {folder}").ok()?;
+    let text = match words.hosts {
+        Some(hosts) => format!(in alloc; "{text} {hosts}").ok()?,
+        None => text,
+    };
+    let parts = [
+        Part::Number("port", words.port.map(u32::from)),
+        Part::Text("desk", words.desk),
+        Part::Flag("epochs", words.epochs),
+    ];
+    with(alloc, text, &parts)
+}
+
+/// The text of a member that is to run.
+fn running(alloc: Global, words: RunWords<'_>) -> Option<String> {
+    let text = format!(in alloc; "run {}", words.settings).ok()?;
+    let parts = [
+        Part::Flag("stay", words.stay),
+        Part::Flag("log", words.log),
+        Part::Flag("log-json", words.log_json),
+        Part::Flag("any-host", words.any_host),
+    ];
+    with(alloc, text, &parts)
 }
 
 /// The text of a proposal.
@@ -122,18 +166,6 @@ fn hearsay(alloc: Global, words: TranscriptWords<'_>) -> Option<String> {
     )
 }
 
-/// The text of a member that is to run.
-fn running(alloc: Global, words: RunWords<'_>) -> Option<String> {
-    let text = format!(in alloc; "run {}", words.settings).ok()?;
-    let parts = [
-        Part::Flag("stay", words.stay),
-        Part::Flag("log", words.log),
-        Part::Flag("log-json", words.log_json),
-        Part::Flag("any-host", words.any_host),
-    ];
-    with(alloc, text, &parts)
-}
-
 /// The text of an audit.
 fn auditing(alloc: Global, words: AuditWords<'_>) -> Option<String> {
     let text = format!(in alloc; "audit {}", words.file).ok()?;
@@ -144,18 +176,6 @@ fn auditing(alloc: Global, words: AuditWords<'_>) -> Option<String> {
         Part::Number("t", words.t.map(u32::from)),
         Part::Number("questions", words.questions.map(u32::from)),
         Part::Text("timeout", words.timeout),
-    ];
-    with(alloc, text, &parts)
-}
-
-/// The text of a measurement of rounds.
-fn measuring(alloc: Global, words: RoundsWords<'_>) -> Option<String> {
-    let text = format!(in alloc; "rounds {} {}", words.n, words.t).ok()?;
-    let parts = [
-        Part::Number("liars", words.liars.map(u32::from)),
-        Part::Text("order", words.order),
-        Part::Number("seeds", words.seeds),
-        Part::Text("chart", words.chart),
     ];
     with(alloc, text, &parts)
 }
@@ -181,25 +201,14 @@ fn simulating(alloc: Global, words: SimulateWords<'_>) -> Option<String> {
     with(alloc, text, &parts)
 }
 
-/// The text of a new cluster.
-fn founding(alloc: Global, words: NewClusterWords<'_>) -> Option<String> {
-    let NewClusterWords {
-        n,
-        t,
-        questions,
-        cluster,
-        folder,
-        ..
-    } = words;
-    let text = format!(in alloc; "new-cluster {n} {t} {questions} {cluster} {folder}").ok()?;
-    let text = match words.hosts {
-        Some(hosts) => format!(in alloc; "{text} {hosts}").ok()?,
-        None => text,
-    };
+/// The text of a measurement of rounds.
+fn measuring(alloc: Global, words: RoundsWords<'_>) -> Option<String> {
+    let text = format!(in alloc; "rounds {} {}", words.n, words.t).ok()?;
     let parts = [
-        Part::Number("port", words.port.map(u32::from)),
-        Part::Text("desk", words.desk),
-        Part::Flag("epochs", words.epochs),
+        Part::Number("liars", words.liars.map(u32::from)),
+        Part::Text("order", words.order),
+        Part::Number("seeds", words.seeds),
+        Part::Text("chart", words.chart),
     ];
     with(alloc, text, &parts)
 }
@@ -240,40 +249,31 @@ fn closing(alloc: Global, words: EpochsWords<'_>) -> Option<String> {
     with(alloc, text, &parts)
 }
 
-/// The text of a task.
-fn task_text(alloc: Global, task: Task<'_>) -> Option<String> {
-    match task {
-        Task::NewCluster(words) => founding(alloc, words),
-        Task::Init(words) => format!(in alloc; "init {}", words.settings).ok(),
-        Task::Run(words) => running(alloc, words),
-        Task::Propose(words) => proposal(alloc, words),
-        Task::Ask(words) => asking(alloc, words),
-        Task::Decide(words) => deciding(alloc, words),
-        Task::Status(words) => standing(alloc, words),
-        Task::Transcript(words) => hearsay(alloc, words),
-        Task::Audit(words) => auditing(alloc, words),
-        Task::Migrate(words) => format!(in alloc; "migrate {} {}", words.old, words.new).ok(),
-        Task::Simulate(words) => simulating(alloc, words),
-        Task::Rounds(words) => measuring(alloc, words),
-        Task::Hear(it) => {
-            format!(in alloc; "hear {} {} {} {}", it.n, it.t, it.questions, it.me).ok()
+/// Returns the text with that of each part behind it.
+fn with(alloc: Global, mut text: String, parts: &[Part<'_>]) -> Option<String> {
+    for part in parts {
+        let more = part_text(alloc, *part)?;
+        text.push_str(more.as_str()).ok()?;
+    }
+    Some(text)
+}
+
+/// Returns the text of a part: nothing where it wasn't asked for.
+fn part_text(alloc: Global, part: Part<'_>) -> Option<String> {
+    match part {
+        Part::Flag(name, true) => format!(in alloc; " {name}").ok(),
+        Part::Text(name, Some(value)) => format!(in alloc; " {name} {value}").ok(),
+        Part::Number(name, Some(value)) => format!(in alloc; " {name} {value}").ok(),
+        Part::Flag(_, false) | Part::Text(_, None) | Part::Number(_, None) => {
+            Some(String::new(alloc))
         }
-        Task::Check(words) => checking(alloc, words),
-        Task::Dump(words) => dumping(alloc, words),
-        Task::Gateway(words) => serving(alloc, words),
-        Task::Epochs(words) => closing(alloc, words),
     }
 }
 
-/// Plays a row.
-pub fn told(alloc: Global, action: &str) -> Option<String> {
-    let words = words_of(alloc, action)?;
-    match asked(alloc, words.as_slice()) {
-        Ok(request) => {
-            let quiet = if request.quiet { "quiet " } else { "" };
-            let task = task_text(alloc, request.task)?;
-            format!(in alloc; "{quiet}{task}").ok()
-        }
-        Err(status) => format!(in alloc; "ends {status}").ok(),
-    }
+/// An option of a task: its name, and its value, if it was given.
+#[derive(Clone, Copy)]
+enum Part<'a> {
+    Flag(&'static str, bool),
+    Text(&'static str, Option<&'a str>),
+    Number(&'static str, Option<u32>),
 }

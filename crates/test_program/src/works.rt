@@ -41,31 +41,6 @@ pub enum Work {
     Status,
 }
 
-/// The choice with one part more, named by a word and a number.
-fn with_part(choice: Choice, name: &str, number: &str) -> Option<Choice> {
-    let mut chosen = choice;
-    match name {
-        "question" => chosen.question = Some(number.parse().ok()?),
-        "member" => chosen.member = Some(number.parse().ok()?),
-        "from" => chosen.from = Some(number.parse().ok()?),
-        "to" => chosen.to = Some(number.parse().ok()?),
-        _ => return None,
-    }
-    Some(chosen)
-}
-
-/// The choice of these words, pairs of a name and a number.
-fn choice_of(words: &[&str]) -> Option<Choice> {
-    if words.len() % 2 != 0 {
-        return None;
-    }
-    let mut choice = Choice::all();
-    for index in 0..words.len() / 2 {
-        choice = with_part(choice, words[2 * index], words[2 * index + 1])?;
-    }
-    Some(choice)
-}
-
 /// The work of these words.
 pub fn work_of(words: &[&str]) -> Option<Work> {
     match words {
@@ -89,6 +64,31 @@ pub fn work_of(words: &[&str]) -> Option<Work> {
     }
 }
 
+/// The choice of these words, pairs of a name and a number.
+fn choice_of(words: &[&str]) -> Option<Choice> {
+    if words.len() % 2 != 0 {
+        return None;
+    }
+    let mut choice = Choice::all();
+    for index in 0..words.len() / 2 {
+        choice = with_part(choice, words[2 * index], words[2 * index + 1])?;
+    }
+    Some(choice)
+}
+
+/// The choice with one part more, named by a word and a number.
+fn with_part(choice: Choice, name: &str, number: &str) -> Option<Choice> {
+    let mut chosen = choice;
+    match name {
+        "question" => chosen.question = Some(number.parse().ok()?),
+        "member" => chosen.member = Some(number.parse().ok()?),
+        "from" => chosen.from = Some(number.parse().ok()?),
+        "to" => chosen.to = Some(number.parse().ok()?),
+        _ => return None,
+    }
+    Some(chosen)
+}
+
 /// What a command runs on.
 #[derive(Drop)]
 pub struct Place<'a> {
@@ -102,20 +102,24 @@ pub struct Place<'a> {
     pub fuse: Option<u64>,
 }
 
-/// Returns how a command ends: its status, or its fault.
-pub fn ending<F: Display + Drop>(alloc: Global, ended: Result<u8, F>) -> Option<String> {
-    match ended {
-        Ok(status) => format!(in alloc; "{status}").ok(),
-        Err(fault) => format!(in alloc; "{fault}").ok(),
-    }
-}
-
 impl<'a> Place<'a> {
-    /// The disk.
-    fn disk(&self) -> Option<MemDisk> {
-        let mut disk = disk_of(self.alloc, self.bytes).ok()?;
-        disk.fuse(self.fuse);
-        Some(disk)
+    /// Runs a command, and tells how it ends.
+    pub fn run(&self, work: Work, sent: &mut Output, output: &mut Output) -> Option<String> {
+        let alloc = self.alloc;
+        match work {
+            Work::Hear(n, t, questions, me) => self.hear((n, t, questions), me, output),
+            Work::Dump => ending(alloc, dump_lines(alloc, &mut self.disk()?, output)),
+            Work::Count => ending(alloc, dump_count(alloc, &mut self.disk()?, output)),
+            Work::Simulate => ending(alloc, simulate_text(alloc, self.bytes, output)),
+            Work::Trace => self.pages(None, output),
+            Work::Chart(choice) => self.pages(Some(choice), output),
+            Work::Settings => self.settings(output),
+            Work::Check(header) => {
+                let checked = check_journal(alloc, &header, &mut self.disk()?, output);
+                ending(alloc, checked)
+            }
+            Work::Ask(_) | Work::Propose(_, _) | Work::Status => self.ask(work, sent, output),
+        }
     }
 
     /// Returns what `hear` answers to the input, and how it ends.
@@ -130,6 +134,13 @@ impl<'a> Place<'a> {
             self.alloc,
             hear_lines(self.alloc, size, me, &mut input, output),
         )
+    }
+
+    /// The disk.
+    fn disk(&self) -> Option<MemDisk> {
+        let mut disk = disk_of(self.alloc, self.bytes).ok()?;
+        disk.fuse(self.fuse);
+        Some(disk)
     }
 
     /// A script's trace and what is printed behind it, or its chart with the events that are
@@ -164,12 +175,6 @@ impl<'a> Place<'a> {
         }
     }
 
-    /// Returns what a client makes of the reply to its line.
-    fn talk(&self, line: &str, sent: &mut Output, output: &mut Output) -> Option<String> {
-        let mut reply = Input::new(self.bytes, self.torn);
-        ending(self.alloc, talk(self.alloc, line, sent, &mut reply, output))
-    }
-
     /// Runs a client, and tells how it ends.
     fn ask(&self, work: Work, sent: &mut Output, output: &mut Output) -> Option<String> {
         match work {
@@ -185,24 +190,24 @@ impl<'a> Place<'a> {
         }
     }
 
-    /// Runs a command, and tells how it ends.
-    pub fn run(&self, work: Work, sent: &mut Output, output: &mut Output) -> Option<String> {
-        let alloc = self.alloc;
-        match work {
-            Work::Hear(n, t, questions, me) => self.hear((n, t, questions), me, output),
-            Work::Dump => ending(alloc, dump_lines(alloc, &mut self.disk()?, output)),
-            Work::Count => ending(alloc, dump_count(alloc, &mut self.disk()?, output)),
-            Work::Simulate => ending(alloc, simulate_text(alloc, self.bytes, output)),
-            Work::Trace => self.pages(None, output),
-            Work::Chart(choice) => self.pages(Some(choice), output),
-            Work::Settings => self.settings(output),
-            Work::Check(header) => {
-                let checked = check_journal(alloc, &header, &mut self.disk()?, output);
-                ending(alloc, checked)
-            }
-            Work::Ask(_) | Work::Propose(_, _) | Work::Status => self.ask(work, sent, output),
-        }
+    /// Returns what a client makes of the reply to its line.
+    fn talk(&self, line: &str, sent: &mut Output, output: &mut Output) -> Option<String> {
+        let mut reply = Input::new(self.bytes, self.torn);
+        ending(self.alloc, talk(self.alloc, line, sent, &mut reply, output))
     }
+}
+
+/// Returns how a command ends: its status, or its fault.
+pub fn ending<F: Display + Drop>(alloc: Global, ended: Result<u8, F>) -> Option<String> {
+    match ended {
+        Ok(status) => format!(in alloc; "{status}").ok(),
+        Err(fault) => format!(in alloc; "{fault}").ok(),
+    }
+}
+
+/// Whether a trace's path or a chart's takes the output.
+pub fn takes(alloc: Global, trace: &str, chart: &str) -> Option<String> {
+    format!(in alloc; "{}", takes_output(path_of(trace), path_of(chart))).ok()
 }
 
 /// The path in quotes, or none where it is `none`.
@@ -211,11 +216,6 @@ fn path_of<'a>(word: &'a str) -> Option<&'a str> {
         "none" => None,
         path => Some(path.trim_matches('"')),
     }
-}
-
-/// Whether a trace's path or a chart's takes the output.
-pub fn takes(alloc: Global, trace: &str, chart: &str) -> Option<String> {
-    format!(in alloc; "{}", takes_output(path_of(trace), path_of(chart))).ok()
 }
 
 /// Returns what stands in the output and among the errors, where verdicts are printed, or put

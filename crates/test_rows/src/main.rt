@@ -13,15 +13,35 @@ use std::sync::Wait;
 use std::time::Clock;
 use std::{fs, io};
 
-/// Returns what a row says is done, and what it says is answered: nothing where it has no arrow.
-fn parts(line: &str) -> (&str, &str) {
-    if let Some(answer) = line.strip_prefix("-> ") {
-        return ("", answer);
+fn main(rt: HostRuntime) -> io::Result<()> {
+    let index = fs::read_to_string(&rt, "index")?;
+    for line in index.as_str().lines() {
+        match line.split_once(' ') {
+            Some((topic, name)) => play(&rt, &rt, &mut Player::new(rt.alloc(), topic), name)?,
+            None => println!(rt; "{line}: names no file")?,
+        }
     }
-    match line.split_once(" ->") {
-        Some((action, answer)) => (action, answer.strip_prefix(" ").unwrap_or(answer)),
-        None => (line, ""),
+    Ok(())
+}
+
+/// Plays a file.
+fn play<R: Wait + Clock>(
+    rt: &R,
+    host: &HostRuntime,
+    player: &mut Player,
+    name: &str,
+) -> io::Result<()> {
+    let Ok(text) = fs::read_to_string(host, name) else {
+        return println!(host; "{name}: can't be read");
+    };
+    let mut count = 0u64;
+    for (at, line) in text.as_str().lines().enumerate() {
+        let is_row = !line.is_empty() && !line.starts_with('#');
+        if is_row && is_so(rt, host, player, (name, at.saturating_add(1)), line)? {
+            count = count.saturating_add(1);
+        }
     }
+    println!(host; "{name}: {count} rows as they say")
 }
 
 /// Plays a row. Tells whether it is as it says, and prints it where it isn't.
@@ -47,33 +67,13 @@ fn is_so<R: Wait + Clock>(
     }
 }
 
-/// Plays a file.
-fn play<R: Wait + Clock>(
-    rt: &R,
-    host: &HostRuntime,
-    player: &mut Player,
-    name: &str,
-) -> io::Result<()> {
-    let Ok(text) = fs::read_to_string(host, name) else {
-        return println!(host; "{name}: can't be read");
-    };
-    let mut count = 0u64;
-    for (at, line) in text.as_str().lines().enumerate() {
-        let is_row = !line.is_empty() && !line.starts_with('#');
-        if is_row && is_so(rt, host, player, (name, at.saturating_add(1)), line)? {
-            count = count.saturating_add(1);
-        }
+/// Returns what a row says is done, and what it says is answered: nothing where it has no arrow.
+fn parts(line: &str) -> (&str, &str) {
+    if let Some(answer) = line.strip_prefix("-> ") {
+        return ("", answer);
     }
-    println!(host; "{name}: {count} rows as they say")
-}
-
-fn main(rt: HostRuntime) -> io::Result<()> {
-    let index = fs::read_to_string(&rt, "index")?;
-    for line in index.as_str().lines() {
-        match line.split_once(' ') {
-            Some((topic, name)) => play(&rt, &rt, &mut Player::new(rt.alloc(), topic), name)?,
-            None => println!(rt; "{line}: names no file")?,
-        }
+    match line.split_once(" ->") {
+        Some((action, answer)) => (action, answer.strip_prefix(" ").unwrap_or(answer)),
+        None => (line, ""),
     }
-    Ok(())
 }

@@ -17,18 +17,6 @@ pub struct Audit {
     text: Vec<u8>,
 }
 
-/// Returns what is written of the text, without the byte that ends its line, or the fault.
-fn audited(alloc: Global, text: &[u8], size: Size) -> Result<String, AllocError> {
-    let mut output = Vec::new(alloc);
-    match audit_text(alloc, text, size, &mut output) {
-        Ok(status) => {
-            let said = str::from_utf8(&output).unwrap_or("?").trim_end();
-            format!(in alloc; "{said} {status}")
-        }
-        Err(fault) => format!(in alloc; "{fault}"),
-    }
-}
-
 impl Audit {
     /// Of no cluster yet.
     pub fn new(alloc: Global) -> Audit {
@@ -37,23 +25,6 @@ impl Audit {
             size: None,
             text: Vec::new(alloc),
         }
-    }
-
-    /// Puts bytes behind the text.
-    fn put(&mut self, bytes: &[u8]) -> Option<String> {
-        self.text.extend_from_slice(bytes).ok()?;
-        Some(String::new(self.alloc))
-    }
-
-    /// Begins a text.
-    fn begin(&mut self, size: &str) -> Option<String> {
-        let words = words_of(self.alloc, size)?;
-        let [n, t, questions] = words.as_slice() else {
-            return None;
-        };
-        self.size = Some(size_of(n, t, questions)?);
-        self.text.clear();
-        Some(String::new(self.alloc))
     }
 
     /// Plays a row.
@@ -73,5 +44,34 @@ impl Audit {
             "audit" => audited(self.alloc, &self.text, self.size?).ok(),
             _ => None,
         }
+    }
+
+    /// Begins a text.
+    fn begin(&mut self, size: &str) -> Option<String> {
+        let words = words_of(self.alloc, size)?;
+        let [n, t, questions] = words.as_slice() else {
+            return None;
+        };
+        self.size = Some(size_of(n, t, questions)?);
+        self.text.clear();
+        Some(String::new(self.alloc))
+    }
+
+    /// Puts bytes behind the text.
+    fn put(&mut self, bytes: &[u8]) -> Option<String> {
+        self.text.extend_from_slice(bytes).ok()?;
+        Some(String::new(self.alloc))
+    }
+}
+
+/// Returns what is written of the text, without the byte that ends its line, or the fault.
+fn audited(alloc: Global, text: &[u8], size: Size) -> Result<String, AllocError> {
+    let mut output = Vec::new(alloc);
+    match audit_text(alloc, text, size, &mut output) {
+        Ok(status) => {
+            let said = str::from_utf8(&output).unwrap_or("?").trim_end();
+            format!(in alloc; "{said} {status}")
+        }
+        Err(fault) => format!(in alloc; "{fault}"),
     }
 }

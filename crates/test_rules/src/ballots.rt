@@ -17,14 +17,6 @@ pub struct Ballots {
     votes: Votes,
 }
 
-/// The number of a member, of 64.
-fn member_of(word: &str) -> Option<u8>
-    ensures { IfSome result (λ member. member < 64) }
-{
-    let member: u8 = word.parse().ok()?;
-    if member < 64 { Some(member) } else { None }
-}
-
 impl Ballots {
     /// Of no vote.
     pub fn new(alloc: Global) -> Ballots {
@@ -32,21 +24,6 @@ impl Ballots {
             alloc,
             third: false,
             votes: Votes::none(),
-        }
-    }
-
-    /// Begins, in step 3 or in another.
-    fn begin(&mut self, third: bool) -> Option<String> {
-        self.third = third;
-        self.votes = Votes::none();
-        Some(String::new(self.alloc))
-    }
-
-    /// Returns what a member sent.
-    fn value(&self, member: &str) -> Option<String> {
-        match self.votes.value(self.third, member_of(member)?) {
-            Some(value) => format!(in self.alloc; "{value:?}").ok(),
-            None => format!(in self.alloc; "-").ok(),
         }
     }
 
@@ -69,4 +46,27 @@ impl Ballots {
             _ => None,
         }
     }
+
+    /// Begins, in step 3 or in another.
+    fn begin(&mut self, third: bool) -> Option<String> {
+        self.third = third;
+        self.votes = Votes::none();
+        Some(String::new(self.alloc))
+    }
+
+    /// Returns what a member sent.
+    fn value(&self, member: &str) -> Option<String> {
+        match self.votes.value(self.third, member_of(member)?) {
+            Some(value) => format!(in self.alloc; "{value:?}").ok(),
+            None => format!(in self.alloc; "-").ok(),
+        }
+    }
+}
+
+/// The number of a member, of 64.
+fn member_of(word: &str) -> Option<u8>
+    ensures { IfSome result (λ member. member < 64) }
+{
+    let member: u8 = word.parse().ok()?;
+    if member < 64 { Some(member) } else { None }
 }

@@ -16,47 +16,10 @@ pub struct Cores {
     core: Option<Core>,
 }
 
-/// The records of these words.
-fn records_of(alloc: Global, words: &[&str]) -> Option<Vec<Record>> {
-    let mut records = Vec::new(alloc);
-    for word in words {
-        records.push(record_of(alloc, word)?).ok()?;
-    }
-    Some(records)
-}
-
-/// Returns what is said of an answer, or of the fault.
-fn told_of(alloc: Global, answer: Result<Answer, CoreFault>) -> Option<String> {
-    match answer {
-        Ok(answer) => answer_text(alloc, &answer).ok(),
-        Err(fault) => format!(in alloc; "{fault}").ok(),
-    }
-}
-
-/// Returns what is said of a decision.
-fn verdict_text(alloc: Global, verdict: Option<(u8, bool)>) -> Option<String> {
-    match verdict {
-        Some((round, bit)) => format!(in alloc; "{round} {}", u8::from(bit)).ok(),
-        None => format!(in alloc; "none").ok(),
-    }
-}
-
 impl Cores {
     /// Of no core yet.
     pub fn new(alloc: Global) -> Cores {
         Cores { alloc, core: None }
-    }
-
-    /// Opens a core.
-    fn open(&mut self, size: Size, me: u8, records: &[Record]) -> Option<String> {
-        self.core = None;
-        match Core::new(self.alloc, size, me, records) {
-            Ok(core) => {
-                self.core = Some(core);
-                Some(String::new(self.alloc))
-            }
-            Err(fault) => format!(in self.alloc; "{fault}").ok(),
-        }
     }
 
     /// Plays a row.
@@ -82,5 +45,42 @@ impl Cores {
             }
             _ => None,
         }
+    }
+
+    /// Opens a core.
+    fn open(&mut self, size: Size, me: u8, records: &[Record]) -> Option<String> {
+        self.core = None;
+        match Core::new(self.alloc, size, me, records) {
+            Ok(core) => {
+                self.core = Some(core);
+                Some(String::new(self.alloc))
+            }
+            Err(fault) => format!(in self.alloc; "{fault}").ok(),
+        }
+    }
+}
+
+/// The records of these words.
+fn records_of(alloc: Global, words: &[&str]) -> Option<Vec<Record>> {
+    let mut records = Vec::new(alloc);
+    for word in words {
+        records.push(record_of(alloc, word)?).ok()?;
+    }
+    Some(records)
+}
+
+/// Returns what is said of an answer, or of the fault.
+fn told_of(alloc: Global, answer: Result<Answer, CoreFault>) -> Option<String> {
+    match answer {
+        Ok(answer) => answer_text(alloc, &answer).ok(),
+        Err(fault) => format!(in alloc; "{fault}").ok(),
+    }
+}
+
+/// Returns what is said of a decision.
+fn verdict_text(alloc: Global, verdict: Option<(u8, bool)>) -> Option<String> {
+    match verdict {
+        Some((round, bit)) => format!(in alloc; "{round} {}", u8::from(bit)).ok(),
+        None => format!(in alloc; "none").ok(),
     }
 }

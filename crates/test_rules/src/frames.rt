@@ -20,163 +20,6 @@ pub struct Stream {
     size: Option<Size>,
 }
 
-/// A statement in words.
-fn statement_text(alloc: Global, said: Statement) -> Result<String, Memory> {
-    let place = said.place();
-    let (kind, value) = (said.kind(), said.value());
-    let (question, origin, round) = (place.question(), place.origin(), place.round());
-    let text = format!(in alloc;
-        "{kind:?} {question} {origin} {round} {} {value:?}",
-        place.step()
-    )?;
-    Ok(text)
-}
-
-/// Several statements in words, in brackets and with a semicolon between them.
-fn several_text(alloc: Global, several: &[Statement]) -> Result<String, Memory> {
-    let mut text = "(".to_string(alloc)?;
-    for said in several {
-        if text.len() > 1 {
-            text.push_str("; ")?;
-        }
-        text.push_str(statement_text(alloc, *said)?.as_str())?;
-    }
-    text.push_str(")")?;
-    Ok(text)
-}
-
-/// A hello's name, by its version.
-fn hello_name(version: Version) -> &'static str {
-    match version {
-        Version::One => "Hello",
-        Version::Two => "Hello-2",
-    }
-}
-
-/// A message in words.
-fn message_text(alloc: Global, message: &Message) -> Result<String, Memory> {
-    match message {
-        Message::Idle => Ok("Idle".to_string(alloc)?),
-        Message::Welcome { next } => Ok(format!(in alloc; "Welcome {next}")?),
-        Message::Hello {
-            version,
-            cluster,
-            size,
-            from,
-            to,
-        } => Ok(format!(in alloc;
-            "{} {cluster} {} {} {} {from} {to}",
-            hello_name(*version),
-            size.n(),
-            size.t(),
-            size.questions()
-        )?),
-        Message::Statement(said) => statement_text(alloc, *said),
-        Message::Statements(several) => several_text(alloc, several.as_slice()),
-    }
-}
-
-/// The messages in words, and how the stream ends.
-fn shown(alloc: Global, messages: &[Message], fed: Fed) -> Result<String, Memory> {
-    let mut text = String::new(alloc);
-    for message in messages {
-        text.push_str(message_text(alloc, message)?.as_str())?;
-        text.push_str(", ")?;
-    }
-    let end = match fed {
-        Fed::More => format!(in alloc; "More")?,
-        Fed::Broken(fault) => format!(in alloc; "{fault}")?,
-    };
-    text.push_str(end.as_str())?;
-    Ok(text)
-}
-
-/// Returns what a feeder tells of the bytes in pieces of that length, the first of another one.
-fn in_pieces(
-    alloc: Global,
-    size: Size,
-    bytes: &[u8],
-    first: usize,
-    piece: usize,
-) -> Result<String, Memory> {
-    let mut feeder = Feeder::new(size);
-    let mut messages = Vec::new(alloc);
-    let (front, mut rest) = bytes.split_at(first.min(bytes.len()));
-    let mut fed = feeder.feed(front, &mut messages)?;
-    for _turn in 0..bytes.len() {
-        let (next, behind) = rest.split_at(piece.min(rest.len()));
-        fed = feeder.feed(next, &mut messages)?;
-        rest = behind;
-    }
-    shown(alloc, &messages, fed)
-}
-
-/// Whether the messages that are read of the bytes are encoded as the bytes begin.
-fn is_spelled(alloc: Global, size: Size, bytes: &[u8]) -> Result<bool, Memory> {
-    let mut messages = Vec::new(alloc);
-    let _fed = Feeder::new(size).feed(bytes, &mut messages)?;
-    let mut again = Vec::new(alloc);
-    for message in &messages {
-        encode(message, &mut again)?;
-    }
-    Ok(bytes.starts_with(&again))
-}
-
-/// Returns what a feeder tells of the bytes, if it tells the same however they are cut.
-fn however_cut(alloc: Global, size: Size, bytes: &[u8]) -> Result<String, Memory> {
-    let whole = in_pieces(alloc, size, bytes, bytes.len(), 1)?;
-    for cut in 0..bytes.len() {
-        let told = in_pieces(alloc, size, bytes, cut, bytes.len())?;
-        if told.as_str() != whole.as_str() {
-            return Ok(format!(in alloc; "cut at {cut} {told}")?);
-        }
-    }
-    let told = in_pieces(alloc, size, bytes, 0, 1)?;
-    if told.as_str() != whole.as_str() {
-        return Ok(format!(in alloc; "byte by byte {told}")?);
-    }
-    if !is_spelled(alloc, size, bytes)? {
-        return Ok(format!(in alloc; "encoded otherwise {told}")?);
-    }
-    Ok(whole)
-}
-
-/// The statement that six words say.
-fn statement_of(words: &[&str]) -> Option<Statement> {
-    match words {
-        [kind, question, origin, round, step, value] => {
-            let (question, origin) = (question.parse().ok()?, origin.parse().ok()?);
-            let place = Place::new(question, origin, round.parse().ok()?, step.parse().ok()?)?;
-            Statement::new(kind_of(kind)?, place, value_of(value)?)
-        }
-        _ => None,
-    }
-}
-
-/// The statements that the words say, six words each.
-fn statements_of(alloc: Global, words: &[&str]) -> Option<Vec<Statement>> {
-    let mut items = Vec::new(alloc);
-    for six in words.chunks(6) {
-        items.push(statement_of(six)?).ok()?;
-    }
-    Some(items)
-}
-
-/// The frame of a message.
-fn frame_of(alloc: Global, message: &Message) -> Option<String> {
-    let mut bytes = Vec::new(alloc);
-    encode(message, &mut bytes).ok()?;
-    hex::encode(alloc, &bytes).ok()
-}
-
-/// The frame of these statements, or `back` where they are too few or too many for one.
-fn frame_of_several(alloc: Global, items: Vec<Statement>) -> Option<String> {
-    match Many::new(items) {
-        Ok(many) => frame_of(alloc, &Message::Statements(many)),
-        Err(_) => "back".to_string(alloc).ok(),
-    }
-}
-
 impl Stream {
     /// Of no cluster yet.
     pub fn new(alloc: Global) -> Stream {
@@ -206,4 +49,161 @@ impl Stream {
             _ => None,
         }
     }
+}
+
+/// The statements that the words say, six words each.
+fn statements_of(alloc: Global, words: &[&str]) -> Option<Vec<Statement>> {
+    let mut items = Vec::new(alloc);
+    for six in words.chunks(6) {
+        items.push(statement_of(six)?).ok()?;
+    }
+    Some(items)
+}
+
+/// The statement that six words say.
+fn statement_of(words: &[&str]) -> Option<Statement> {
+    match words {
+        [kind, question, origin, round, step, value] => {
+            let (question, origin) = (question.parse().ok()?, origin.parse().ok()?);
+            let place = Place::new(question, origin, round.parse().ok()?, step.parse().ok()?)?;
+            Statement::new(kind_of(kind)?, place, value_of(value)?)
+        }
+        _ => None,
+    }
+}
+
+/// The frame of these statements, or `back` where they are too few or too many for one.
+fn frame_of_several(alloc: Global, items: Vec<Statement>) -> Option<String> {
+    match Many::new(items) {
+        Ok(many) => frame_of(alloc, &Message::Statements(many)),
+        Err(_) => "back".to_string(alloc).ok(),
+    }
+}
+
+/// The frame of a message.
+fn frame_of(alloc: Global, message: &Message) -> Option<String> {
+    let mut bytes = Vec::new(alloc);
+    encode(message, &mut bytes).ok()?;
+    hex::encode(alloc, &bytes).ok()
+}
+
+/// Returns what a feeder tells of the bytes, if it tells the same however they are cut.
+fn however_cut(alloc: Global, size: Size, bytes: &[u8]) -> Result<String, Memory> {
+    let whole = in_pieces(alloc, size, bytes, bytes.len(), 1)?;
+    for cut in 0..bytes.len() {
+        let told = in_pieces(alloc, size, bytes, cut, bytes.len())?;
+        if told.as_str() != whole.as_str() {
+            return Ok(format!(in alloc; "cut at {cut} {told}")?);
+        }
+    }
+    let told = in_pieces(alloc, size, bytes, 0, 1)?;
+    if told.as_str() != whole.as_str() {
+        return Ok(format!(in alloc; "byte by byte {told}")?);
+    }
+    if !is_spelled(alloc, size, bytes)? {
+        return Ok(format!(in alloc; "encoded otherwise {told}")?);
+    }
+    Ok(whole)
+}
+
+/// Returns what a feeder tells of the bytes in pieces of that length, the first of another one.
+fn in_pieces(
+    alloc: Global,
+    size: Size,
+    bytes: &[u8],
+    first: usize,
+    piece: usize,
+) -> Result<String, Memory> {
+    let mut feeder = Feeder::new(size);
+    let mut messages = Vec::new(alloc);
+    let (front, mut rest) = bytes.split_at(first.min(bytes.len()));
+    let mut fed = feeder.feed(front, &mut messages)?;
+    for _turn in 0..bytes.len() {
+        let (next, behind) = rest.split_at(piece.min(rest.len()));
+        fed = feeder.feed(next, &mut messages)?;
+        rest = behind;
+    }
+    shown(alloc, &messages, fed)
+}
+
+/// The messages in words, and how the stream ends.
+fn shown(alloc: Global, messages: &[Message], fed: Fed) -> Result<String, Memory> {
+    let mut text = String::new(alloc);
+    for message in messages {
+        text.push_str(message_text(alloc, message)?.as_str())?;
+        text.push_str(", ")?;
+    }
+    let end = match fed {
+        Fed::More => format!(in alloc; "More")?,
+        Fed::Broken(fault) => format!(in alloc; "{fault}")?,
+    };
+    text.push_str(end.as_str())?;
+    Ok(text)
+}
+
+/// A message in words.
+fn message_text(alloc: Global, message: &Message) -> Result<String, Memory> {
+    match message {
+        Message::Idle => Ok("Idle".to_string(alloc)?),
+        Message::Welcome { next } => Ok(format!(in alloc; "Welcome {next}")?),
+        Message::Hello {
+            version,
+            cluster,
+            size,
+            from,
+            to,
+        } => Ok(format!(in alloc;
+            "{} {cluster} {} {} {} {from} {to}",
+            hello_name(*version),
+            size.n(),
+            size.t(),
+            size.questions()
+        )?),
+        Message::Statement(said) => statement_text(alloc, *said),
+        Message::Statements(several) => several_text(alloc, several.as_slice()),
+    }
+}
+
+/// A hello's name, by its version.
+fn hello_name(version: Version) -> &'static str {
+    match version {
+        Version::One => "Hello",
+        Version::Two => "Hello-2",
+    }
+}
+
+/// Several statements in words, in brackets and with a semicolon between them.
+fn several_text(alloc: Global, several: &[Statement]) -> Result<String, Memory> {
+    let mut text = "(".to_string(alloc)?;
+    for said in several {
+        if text.len() > 1 {
+            text.push_str("; ")?;
+        }
+        text.push_str(statement_text(alloc, *said)?.as_str())?;
+    }
+    text.push_str(")")?;
+    Ok(text)
+}
+
+/// A statement in words.
+fn statement_text(alloc: Global, said: Statement) -> Result<String, Memory> {
+    let place = said.place();
+    let (kind, value) = (said.kind(), said.value());
+    let (question, origin, round) = (place.question(), place.origin(), place.round());
+    let text = format!(in alloc;
+        "{kind:?} {question} {origin} {round} {} {value:?}",
+        place.step()
+    )?;
+    Ok(text)
+}
+
+/// Whether the messages that are read of the bytes are encoded as the bytes begin.
+fn is_spelled(alloc: Global, size: Size, bytes: &[u8]) -> Result<bool, Memory> {
+    let mut messages = Vec::new(alloc);
+    let _fed = Feeder::new(size).feed(bytes, &mut messages)?;
+    let mut again = Vec::new(alloc);
+    for message in &messages {
+        encode(message, &mut again)?;
+    }
+    Ok(bytes.starts_with(&again))
 }

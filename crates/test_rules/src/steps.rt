@@ -36,87 +36,23 @@ struct Asked {
     ghost first: { question_number question ≡ 0 },
 }
 
-/// The question, where there is one.
-#[derive(Drop)]
-pub struct Questions {
-    alloc: Global,
-    asked: Option<Asked>,
-}
-
-/// The values that follow, or a dash.
-fn followers(alloc: Global, size: Size, step: u8, tally: &Tally) -> Option<String> {
-    let mut text = String::new(alloc);
-    for value in VALUES {
-        if may_follow(size, step, tally, value) {
-            let space = if text.is_empty() { "" } else { " " };
-            text.push_str(format!(in alloc; "{space}{value:?}").ok()?.as_str())
-                .ok()?;
-        }
-    }
-    if text.is_empty() {
-        text.push_str("-").ok()?;
-    }
-    Some(text)
-}
-
-/// A decision, or a dash.
-fn decision_text(alloc: Global, decision: Option<(u8, bool)>) -> Option<String> {
-    match decision {
-        Some((round, bit)) => format!(in alloc; "{round} {}", u8::from(bit)).ok(),
-        None => format!(in alloc; "-").ok(),
-    }
-}
-
 impl Asked {
-    /// Accepts a value of an origin, in the steps and in the question.
-    fn accept(&mut self, origin: u8, round: u8, step: u8, value: Value) -> Option<()> {
-        let Some(place) = Place::new(0, origin, round, step) else {
-            return None;
-        };
-        let Some(said) = Statement::new(Initial, place, value) else {
-            return None;
-        };
-        if origin >= self.size.n() {
-            return None;
-        }
-        self.steps.accept(said.place(), said.value()).ok()?;
-        self.question.accept(said.place(), said.value()).ok()
-    }
-
-    /// Accepts the values of a step, from origin 0 on.
-    fn accept_all(&mut self, round: u8, step: u8, values: &[&str]) -> Option<()> {
-        for (origin, value) in (0..32).zip(values) {
-            if *value != "-" {
-                self.accept(origin, round, step, value_of(value)?)?;
+    /// Plays a row of these words.
+    fn told(&mut self, alloc: Global, words: &[&str]) -> Option<String> {
+        match words {
+            ["valid", round, step] => self.valid(alloc, round.parse().ok()?, step.parse().ok()?),
+            ["tally", round, step] => {
+                let tally = self.steps.tally(round.parse().ok()?, step.parse().ok()?);
+                format!(in alloc; "{} {} {}", tally.zero, tally.one, tally.unsure).ok()
+            }
+            ["next", toss] => self.next(alloc, toss),
+            ["due"] => decision_text(alloc, self.question.decision_due()),
+            ["verdict"] => decision_text(alloc, self.question.verdict()),
+            _ => {
+                self.hear(words)?;
+                Some(String::new(alloc))
             }
         }
-        Some(())
-    }
-
-    /// Accepts that value of so many origins.
-    fn fill(&mut self, round: u8, step: u8, count: u8, value: Value) -> Option<()> {
-        for origin in 0..count {
-            self.accept(origin, round, step, value)?;
-        }
-        Some(())
-    }
-
-    /// Notes that this was said.
-    fn note(&mut self, kind: Kind, origin: u8, place: (u8, u8), value: Value) -> Option<()> {
-        let (round, step) = place;
-        let said = Statement::new(kind, Place::new(0, origin, round, step)?, value)?;
-        self.question.note(&Record::Said(said));
-        Some(())
-    }
-
-    /// Notes a decision.
-    fn decide(&mut self, question: u16, round: u8, bit: bool) {
-        let decided = Record::Decided {
-            question,
-            round,
-            bit,
-        };
-        self.question.note(&decided);
     }
 
     /// The values of all origins that are valid.
@@ -184,40 +120,63 @@ impl Asked {
         }
     }
 
-    /// Plays a row of these words.
-    fn told(&mut self, alloc: Global, words: &[&str]) -> Option<String> {
-        match words {
-            ["valid", round, step] => self.valid(alloc, round.parse().ok()?, step.parse().ok()?),
-            ["tally", round, step] => {
-                let tally = self.steps.tally(round.parse().ok()?, step.parse().ok()?);
-                format!(in alloc; "{} {} {}", tally.zero, tally.one, tally.unsure).ok()
-            }
-            ["next", toss] => self.next(alloc, toss),
-            ["due"] => decision_text(alloc, self.question.decision_due()),
-            ["verdict"] => decision_text(alloc, self.question.verdict()),
-            _ => {
-                self.hear(words)?;
-                Some(String::new(alloc))
+    /// Accepts the values of a step, from origin 0 on.
+    fn accept_all(&mut self, round: u8, step: u8, values: &[&str]) -> Option<()> {
+        for (origin, value) in (0..32).zip(values) {
+            if *value != "-" {
+                self.accept(origin, round, step, value_of(value)?)?;
             }
         }
+        Some(())
+    }
+
+    /// Accepts that value of so many origins.
+    fn fill(&mut self, round: u8, step: u8, count: u8, value: Value) -> Option<()> {
+        for origin in 0..count {
+            self.accept(origin, round, step, value)?;
+        }
+        Some(())
+    }
+
+    /// Accepts a value of an origin, in the steps and in the question.
+    fn accept(&mut self, origin: u8, round: u8, step: u8, value: Value) -> Option<()> {
+        let Some(place) = Place::new(0, origin, round, step) else {
+            return None;
+        };
+        let Some(said) = Statement::new(Initial, place, value) else {
+            return None;
+        };
+        if origin >= self.size.n() {
+            return None;
+        }
+        self.steps.accept(said.place(), said.value()).ok()?;
+        self.question.accept(said.place(), said.value()).ok()
+    }
+
+    /// Notes that this was said.
+    fn note(&mut self, kind: Kind, origin: u8, place: (u8, u8), value: Value) -> Option<()> {
+        let (round, step) = place;
+        let said = Statement::new(kind, Place::new(0, origin, round, step)?, value)?;
+        self.question.note(&Record::Said(said));
+        Some(())
+    }
+
+    /// Notes a decision.
+    fn decide(&mut self, question: u16, round: u8, bit: bool) {
+        let decided = Record::Decided {
+            question,
+            round,
+            bit,
+        };
+        self.question.note(&decided);
     }
 }
 
-/// Question 0 at member 0, of which nothing is known.
-fn unasked(alloc: Global, size: Size) -> Asked {
-    let steps = Steps::new(alloc, size, 0);
-    let question = Question::new(alloc, size, 0, 0);
-    Asked {
-        size,
-        steps,
-        question,
-    }
-}
-
-/// The first toss of a stream.
-fn toss_text(alloc: Global, byte: u8, stream: u64) -> Option<String> {
-    let toss = ChaChaTosser::from_seed([byte; 32], stream).toss();
-    format!(in alloc; "{:016x}", toss.0).ok()
+/// The question, where there is one.
+#[derive(Drop)]
+pub struct Questions {
+    alloc: Global,
+    asked: Option<Asked>,
 }
 
 impl Questions {
@@ -258,4 +217,45 @@ impl Questions {
             (_, None) => None,
         }
     }
+}
+
+/// The values that follow, or a dash.
+fn followers(alloc: Global, size: Size, step: u8, tally: &Tally) -> Option<String> {
+    let mut text = String::new(alloc);
+    for value in VALUES {
+        if may_follow(size, step, tally, value) {
+            let space = if text.is_empty() { "" } else { " " };
+            text.push_str(format!(in alloc; "{space}{value:?}").ok()?.as_str())
+                .ok()?;
+        }
+    }
+    if text.is_empty() {
+        text.push_str("-").ok()?;
+    }
+    Some(text)
+}
+
+/// A decision, or a dash.
+fn decision_text(alloc: Global, decision: Option<(u8, bool)>) -> Option<String> {
+    match decision {
+        Some((round, bit)) => format!(in alloc; "{round} {}", u8::from(bit)).ok(),
+        None => format!(in alloc; "-").ok(),
+    }
+}
+
+/// Question 0 at member 0, of which nothing is known.
+fn unasked(alloc: Global, size: Size) -> Asked {
+    let steps = Steps::new(alloc, size, 0);
+    let question = Question::new(alloc, size, 0, 0);
+    Asked {
+        size,
+        steps,
+        question,
+    }
+}
+
+/// The first toss of a stream.
+fn toss_text(alloc: Global, byte: u8, stream: u64) -> Option<String> {
+    let toss = ChaChaTosser::from_seed([byte; 32], stream).toss();
+    format!(in alloc; "{:016x}", toss.0).ok()
 }

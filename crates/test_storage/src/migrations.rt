@@ -48,6 +48,171 @@ pub struct Migration {
     new: Option<MemDisk>,
 }
 
+impl Migration {
+    /// Of no byte, and no new file.
+    pub fn new(alloc: Global) -> Migration {
+        Migration {
+            alloc,
+            old: Vec::new(alloc),
+            new: None,
+        }
+    }
+
+    /// Plays a row.
+    pub fn told(&mut self, action: &str) -> Option<String> {
+        let words = words_of(self.alloc, action)?;
+        match words.as_slice() {
+            ["stop", fused, calls, pick @ ..] => {
+                let (_, said) = self.stop(fused_of(fused)?, calls.parse().ok()?, pick_of(pick)?)?;
+                Some(said)
+            }
+            ["stops", fused, pick @ ..] => self.stops(fused_of(fused)?, pick_of(pick)?),
+            words => self.of_old(words),
+        }
+    }
+
+    /// Stops it at every call in turn.
+    fn stops(&mut self, fused: Fused, pick: Pick) -> Option<String> {
+        let mut runs = Runs::new(self.alloc);
+        for calls in 0..1000u64 {
+            let (failed, said) = self.stop(fused, calls, pick)?;
+            runs.take(said).ok()?;
+            if !failed {
+                return runs.finish().ok();
+            }
+        }
+        None
+    }
+
+    /// Stops it, and crashes: whether it failed, how it ended, and what opening gives then.
+    fn stop(&mut self, fused: Fused, calls: u64, pick: Pick) -> Option<(bool, String)> {
+        let header = self.header()?.ok()?;
+        let (answer, disk) = stopped(self.alloc, &self.old, &header, fused, calls)?;
+        let (text, disk) = opened(self.alloc, disk.crash(pick).ok()?, &header)?;
+        self.new = Some(disk);
+        let ended = answer_text(self.alloc, answer).ok()?;
+        let said = format!(in self.alloc; "{ended} {text}").ok()?;
+        Some((answer.is_err(), said))
+    }
+
+    /// Plays a row of these words, of which the old file knows.
+    fn of_old(&mut self, words: &[&str]) -> Option<String> {
+        match words {
+            ["old"] => {
+                self.old.clear();
+                Some(String::new(self.alloc))
+            }
+            ["old", digits] => {
+                self.old.clear();
+                self.add(digits, 1)
+            }
+            ["more", digits] => self.add(digits, 1),
+            ["more", digits, times] => self.add(digits, times.parse().ok()?),
+            ["peek"] => match self.header()? {
+                Ok(header) => header_text(self.alloc, &header),
+                Err(fault) => format!(in self.alloc; "{fault}").ok(),
+            },
+            ["migrate"] => match self.header()? {
+                Ok(header) => self.migrate(MemDisk::new(self.alloc), &header),
+                Err(fault) => format!(in self.alloc; "{fault}").ok(),
+            },
+            ["migrate", "over", digits] => {
+                let header = self.header()?.ok()?;
+                let new = disk_of(self.alloc, &bytes_of(self.alloc, digits)?).ok()?;
+                self.migrate(new, &header)
+            }
+            ["migrate", n, t, questions, me] => {
+                self.migrate(MemDisk::new(self.alloc), &header_of(n, t, questions, me)?)
+            }
+            ["cuts"] => self.cuts(&self.header()?.ok()?),
+            ["bytes", at] => {
+                let header = self.header()?.ok()?;
+                self.bytes(at.parse().ok()?, &header)
+            }
+            _ => self.of_new(words),
+        }
+    }
+
+    /// Lengthens the old file, so many times.
+    fn add(&mut self, digits: &str, times: u64) -> Option<String> {
+        let bytes = bytes_of(self.alloc, digits)?;
+        for _ in 0..times {
+            self.old.extend_from_slice(&bytes).ok()?;
+        }
+        Some(String::new(self.alloc))
+    }
+
+    /// Brings it over to a disk, for a member.
+    fn migrate(&mut self, new: MemDisk, header: &Header) -> Option<String> {
+        let (answer, disk) = brought_over(self.alloc, &self.old, new, header);
+        self.new = disk;
+        answer_text(self.alloc, answer).ok()
+    }
+
+    /// The answers to every front of the old file.
+    fn cuts(&self, header: &Header) -> Option<String> {
+        let mut runs = Runs::new(self.alloc);
+        for len in 0..self.old.len() {
+            let (front, _) = self.old.as_slice().split_at(len);
+            let (answer, _) = brought_over(self.alloc, front, MemDisk::new(self.alloc), header);
+            runs.take(answer_text(self.alloc, answer).ok()?).ok()?;
+        }
+        runs.finish().ok()
+    }
+
+    /// The answers to the old file with each value at a place, which has its own again then.
+    fn bytes(&mut self, at: usize, header: &Header) -> Option<String> {
+        let own = self.old.get(at).copied()?;
+        let mut runs = Runs::new(self.alloc);
+        for byte in 0..256u16 {
+            *self.old.get_mut(at)? = byte as u8;
+            let (answer, _) = brought_over(self.alloc, &self.old, MemDisk::new(self.alloc), header);
+            runs.take(answer_text(self.alloc, answer).ok()?).ok()?;
+        }
+        *self.old.get_mut(at)? = own;
+        runs.finish().ok()
+    }
+
+    /// Plays a row of these words, of which the new file knows.
+    fn of_new(&mut self, words: &[&str]) -> Option<String> {
+        let mut disk = self.new.take()?;
+        match words {
+            ["again"] => {
+                let header = self.header()?.ok()?;
+                match begin(self.alloc, disk, &header) {
+                    Ok(_) => Some(String::new(self.alloc)),
+                    Err(fault) => format!(in self.alloc; "{fault}").ok(),
+                }
+            }
+            ["open"] => {
+                let header = self.header()?.ok()?;
+                match Journal::open(self.alloc, disk, &header) {
+                    Ok((_, records)) => records_text(self.alloc, "", records.as_slice()).ok(),
+                    Err(fault) => format!(in self.alloc; "{fault}").ok(),
+                }
+            }
+            _ => {
+                let bytes = content(self.alloc, &mut disk)?;
+                self.new = Some(disk);
+                match words {
+                    ["new"] => hex::encode(self.alloc, bytes.as_slice()).ok(),
+                    ["len"] => format!(in self.alloc; "{}", bytes.len()).ok(),
+                    ["part", at, len] => {
+                        part(self.alloc, &bytes, at.parse().ok()?, len.parse().ok()?)
+                    }
+                    _ => None,
+                }
+            }
+        }
+    }
+
+    /// The header that the old file begins with.
+    fn header(&self) -> Option<Result<Header, MigrateFault>> {
+        let mut disk = disk_of(self.alloc, &self.old).ok()?;
+        Some(peek_old(&mut disk))
+    }
+}
+
 /// Returns what is said of an answer.
 fn answer_text(alloc: Global, answer: Answer) -> Result<String, AllocError> {
     match answer {
@@ -134,170 +299,5 @@ fn fused_of(name: &str) -> Option<Fused> {
         "new" => Some(Fused::New),
         "old" => Some(Fused::Old),
         _ => None,
-    }
-}
-
-impl Migration {
-    /// Of no byte, and no new file.
-    pub fn new(alloc: Global) -> Migration {
-        Migration {
-            alloc,
-            old: Vec::new(alloc),
-            new: None,
-        }
-    }
-
-    /// Lengthens the old file, so many times.
-    fn add(&mut self, digits: &str, times: u64) -> Option<String> {
-        let bytes = bytes_of(self.alloc, digits)?;
-        for _ in 0..times {
-            self.old.extend_from_slice(&bytes).ok()?;
-        }
-        Some(String::new(self.alloc))
-    }
-
-    /// The header that the old file begins with.
-    fn header(&self) -> Option<Result<Header, MigrateFault>> {
-        let mut disk = disk_of(self.alloc, &self.old).ok()?;
-        Some(peek_old(&mut disk))
-    }
-
-    /// Brings it over to a disk, for a member.
-    fn migrate(&mut self, new: MemDisk, header: &Header) -> Option<String> {
-        let (answer, disk) = brought_over(self.alloc, &self.old, new, header);
-        self.new = disk;
-        answer_text(self.alloc, answer).ok()
-    }
-
-    /// The answers to every front of the old file.
-    fn cuts(&self, header: &Header) -> Option<String> {
-        let mut runs = Runs::new(self.alloc);
-        for len in 0..self.old.len() {
-            let (front, _) = self.old.as_slice().split_at(len);
-            let (answer, _) = brought_over(self.alloc, front, MemDisk::new(self.alloc), header);
-            runs.take(answer_text(self.alloc, answer).ok()?).ok()?;
-        }
-        runs.finish().ok()
-    }
-
-    /// The answers to the old file with each value at a place, which has its own again then.
-    fn bytes(&mut self, at: usize, header: &Header) -> Option<String> {
-        let own = self.old.get(at).copied()?;
-        let mut runs = Runs::new(self.alloc);
-        for byte in 0..256u16 {
-            *self.old.get_mut(at)? = byte as u8;
-            let (answer, _) = brought_over(self.alloc, &self.old, MemDisk::new(self.alloc), header);
-            runs.take(answer_text(self.alloc, answer).ok()?).ok()?;
-        }
-        *self.old.get_mut(at)? = own;
-        runs.finish().ok()
-    }
-
-    /// Stops it, and crashes: whether it failed, how it ended, and what opening gives then.
-    fn stop(&mut self, fused: Fused, calls: u64, pick: Pick) -> Option<(bool, String)> {
-        let header = self.header()?.ok()?;
-        let (answer, disk) = stopped(self.alloc, &self.old, &header, fused, calls)?;
-        let (text, disk) = opened(self.alloc, disk.crash(pick).ok()?, &header)?;
-        self.new = Some(disk);
-        let ended = answer_text(self.alloc, answer).ok()?;
-        let said = format!(in self.alloc; "{ended} {text}").ok()?;
-        Some((answer.is_err(), said))
-    }
-
-    /// Stops it at every call in turn.
-    fn stops(&mut self, fused: Fused, pick: Pick) -> Option<String> {
-        let mut runs = Runs::new(self.alloc);
-        for calls in 0..1000u64 {
-            let (failed, said) = self.stop(fused, calls, pick)?;
-            runs.take(said).ok()?;
-            if !failed {
-                return runs.finish().ok();
-            }
-        }
-        None
-    }
-
-    /// Plays a row of these words, of which the new file knows.
-    fn of_new(&mut self, words: &[&str]) -> Option<String> {
-        let mut disk = self.new.take()?;
-        match words {
-            ["again"] => {
-                let header = self.header()?.ok()?;
-                match begin(self.alloc, disk, &header) {
-                    Ok(_) => Some(String::new(self.alloc)),
-                    Err(fault) => format!(in self.alloc; "{fault}").ok(),
-                }
-            }
-            ["open"] => {
-                let header = self.header()?.ok()?;
-                match Journal::open(self.alloc, disk, &header) {
-                    Ok((_, records)) => records_text(self.alloc, "", records.as_slice()).ok(),
-                    Err(fault) => format!(in self.alloc; "{fault}").ok(),
-                }
-            }
-            _ => {
-                let bytes = content(self.alloc, &mut disk)?;
-                self.new = Some(disk);
-                match words {
-                    ["new"] => hex::encode(self.alloc, bytes.as_slice()).ok(),
-                    ["len"] => format!(in self.alloc; "{}", bytes.len()).ok(),
-                    ["part", at, len] => {
-                        part(self.alloc, &bytes, at.parse().ok()?, len.parse().ok()?)
-                    }
-                    _ => None,
-                }
-            }
-        }
-    }
-
-    /// Plays a row of these words, of which the old file knows.
-    fn of_old(&mut self, words: &[&str]) -> Option<String> {
-        match words {
-            ["old"] => {
-                self.old.clear();
-                Some(String::new(self.alloc))
-            }
-            ["old", digits] => {
-                self.old.clear();
-                self.add(digits, 1)
-            }
-            ["more", digits] => self.add(digits, 1),
-            ["more", digits, times] => self.add(digits, times.parse().ok()?),
-            ["peek"] => match self.header()? {
-                Ok(header) => header_text(self.alloc, &header),
-                Err(fault) => format!(in self.alloc; "{fault}").ok(),
-            },
-            ["migrate"] => match self.header()? {
-                Ok(header) => self.migrate(MemDisk::new(self.alloc), &header),
-                Err(fault) => format!(in self.alloc; "{fault}").ok(),
-            },
-            ["migrate", "over", digits] => {
-                let header = self.header()?.ok()?;
-                let new = disk_of(self.alloc, &bytes_of(self.alloc, digits)?).ok()?;
-                self.migrate(new, &header)
-            }
-            ["migrate", n, t, questions, me] => {
-                self.migrate(MemDisk::new(self.alloc), &header_of(n, t, questions, me)?)
-            }
-            ["cuts"] => self.cuts(&self.header()?.ok()?),
-            ["bytes", at] => {
-                let header = self.header()?.ok()?;
-                self.bytes(at.parse().ok()?, &header)
-            }
-            _ => self.of_new(words),
-        }
-    }
-
-    /// Plays a row.
-    pub fn told(&mut self, action: &str) -> Option<String> {
-        let words = words_of(self.alloc, action)?;
-        match words.as_slice() {
-            ["stop", fused, calls, pick @ ..] => {
-                let (_, said) = self.stop(fused_of(fused)?, calls.parse().ok()?, pick_of(pick)?)?;
-                Some(said)
-            }
-            ["stops", fused, pick @ ..] => self.stops(fused_of(fused)?, pick_of(pick)?),
-            words => self.of_old(words),
-        }
     }
 }

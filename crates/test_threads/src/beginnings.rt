@@ -15,13 +15,6 @@ use terms::{Header, Kind, Place, Size, Statement, Value};
 /// The questions of the member, of which a client proposes on each.
 pub(crate) const QUESTIONS: u16 = 40;
 
-/// The header of member 1 of the cluster 7, of 16 members of whom 5 may lie.
-fn header() -> Result<Header, Fail>
-    ensures { IfOk result (λ h. h ≡ new_header 7 (new_size 16 5 40) 1) }
-{
-    Ok(Header::new(7, Size::new(16, 5, QUESTIONS)?, 1).ok_or("a header")?)
-}
-
 /// A member on a new disk.
 pub(crate) fn start(rt: &impl AllocGlobal) -> Result<Member<MemDisk>, Fail>
     ensures sound { IfOk result (λ m. IsSound memory_disk m) }
@@ -32,13 +25,6 @@ pub(crate) fn start(rt: &impl AllocGlobal) -> Result<Member<MemDisk>, Fail>
     let mut disk = MemDisk::new(rt.alloc());
     journal::create(&mut disk, &header)?;
     Ok(Member::open(rt.alloc(), disk, &header)?)
-}
-
-/// A board for the questions of the member.
-pub(crate) fn board(rt: &impl AllocGlobal) -> Result<NewBoard, Fail>
-    ensures { IfOk result (λ b. length b.cells ≡ 40) }
-{
-    Ok(NewBoard::new(rt.alloc(), QUESTIONS)?)
 }
 
 /// A hub over a member that was just opened, and its seats.
@@ -56,6 +42,20 @@ pub(crate) fn open<J: Naming>(
 {
     let (hub, seats) = Hub::<MemDisk, J>::open(alloc, member, board)?;
     Ok((hub, Rack::new(seats)))
+}
+
+/// The header of member 1 of the cluster 7, of 16 members of whom 5 may lie.
+fn header() -> Result<Header, Fail>
+    ensures { IfOk result (λ h. h ≡ new_header 7 (new_size 16 5 40) 1) }
+{
+    Ok(Header::new(7, Size::new(16, 5, QUESTIONS)?, 1).ok_or("a header")?)
+}
+
+/// A board for the questions of the member.
+pub(crate) fn board(rt: &impl AllocGlobal) -> Result<NewBoard, Fail>
+    ensures { IfOk result (λ b. length b.cells ≡ 40) }
+{
+    Ok(NewBoard::new(rt.alloc(), QUESTIONS)?)
 }
 
 /// A statement with the value One at question 0 and that origin, round 1 and step 1.

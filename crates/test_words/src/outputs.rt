@@ -78,25 +78,6 @@ impl Output {
         self.told = 0;
     }
 
-    /// Returns how many of so many bytes it takes now: none where it fails.
-    fn takes(&self, count: usize) -> Option<usize> {
-        match self.room {
-            Room::Ample => Some(count),
-            Room::Few(room) if self.taken.len() < room => Some(count.min(1)),
-            Room::Few(_) => None,
-            Room::Shut => Some(0),
-        }
-    }
-
-    /// Returns what wasn't told yet.
-    fn rest(&self) -> &[u8] {
-        let (_, rest) = self
-            .taken
-            .as_slice()
-            .split_at(self.told.min(self.taken.len()));
-        rest
-    }
-
     /// Returns `true` if all was told.
     pub fn is_told(&self) -> bool {
         self.told >= self.taken.len()
@@ -112,6 +93,15 @@ impl Output {
         String::from_utf8(line).ok()
     }
 
+    /// Returns what wasn't told yet.
+    fn rest(&self) -> &[u8] {
+        let (_, rest) = self
+            .taken
+            .as_slice()
+            .split_at(self.told.min(self.taken.len()));
+        rest
+    }
+
     /// Returns what it took, in digits. All is told then.
     pub fn digits(&mut self, alloc: Global) -> Option<String> {
         self.told = self.taken.len();
@@ -121,6 +111,16 @@ impl Output {
     /// Returns what it took, as text.
     pub fn text(&self) -> Option<&str> {
         str::from_utf8(&self.taken).ok()
+    }
+
+    /// Returns how many of so many bytes it takes now: none where it fails.
+    fn takes(&self, count: usize) -> Option<usize> {
+        match self.room {
+            Room::Ample => Some(count),
+            Room::Few(room) if self.taken.len() < room => Some(count.min(1)),
+            Room::Few(_) => None,
+            Room::Shut => Some(0),
+        }
     }
 }
 

@@ -111,6 +111,18 @@ pub fn record_of(alloc: Global, digits: &str) -> Option<Record> {
     }
 }
 
+/// A word, and behind it the records.
+pub fn records_text(alloc: Global, word: &str, records: &[Record]) -> Result<String, Memory> {
+    let mut text = word.to_string(alloc)?;
+    for record in records {
+        if text.len() > 0 {
+            text.push_str(" ")?;
+        }
+        text.push_str(record_text(alloc, record)?.as_str())?;
+    }
+    Ok(text)
+}
+
 /// The digits of a record: of a statement those that a frame has, of a decision 04, the question,
 /// 00, the round, 00 and the bit.
 fn record_text(alloc: Global, record: &Record) -> Result<String, Memory> {
@@ -127,18 +139,6 @@ fn record_text(alloc: Global, record: &Record) -> Result<String, Memory> {
             bit,
         } => Ok(format!(in alloc; "04{question:04x}00{round:02x}00{:02x}", u8::from(bit))?),
     }
-}
-
-/// A word, and behind it the records.
-pub fn records_text(alloc: Global, word: &str, records: &[Record]) -> Result<String, Memory> {
-    let mut text = word.to_string(alloc)?;
-    for record in records {
-        if text.len() > 0 {
-            text.push_str(" ")?;
-        }
-        text.push_str(record_text(alloc, record)?.as_str())?;
-    }
-    Ok(text)
 }
 
 /// Returns what is said of an answer.

@@ -24,15 +24,13 @@ impl Runs {
         }
     }
 
-    /// Ends the run.
-    fn end(&mut self) -> Result<(), AllocError> {
-        if let Some(answer) = &self.answer {
-            let space = if self.first == 0 { "" } else { " " };
-            let (first, last) = (self.first, self.next.saturating_sub(1));
-            let run = format!(in self.alloc; "{space}{first}-{last} {answer}")?;
-            self.text.push_str(run.as_str())?;
+    /// The next number has that answer.
+    pub fn take(&mut self, answer: String) -> Result<(), AllocError> {
+        if !self.has(answer.as_str()) {
+            self.end()?;
+            self.answer = Some(answer);
         }
-        self.first = self.next;
+        self.next = self.next.saturating_add(1);
         Ok(())
     }
 
@@ -44,19 +42,21 @@ impl Runs {
         }
     }
 
-    /// The next number has that answer.
-    pub fn take(&mut self, answer: String) -> Result<(), AllocError> {
-        if !self.has(answer.as_str()) {
-            self.end()?;
-            self.answer = Some(answer);
-        }
-        self.next = self.next.saturating_add(1);
-        Ok(())
-    }
-
     /// All runs.
     pub fn finish(mut self) -> Result<String, AllocError> {
         self.end()?;
         Ok(self.text)
+    }
+
+    /// Ends the run.
+    fn end(&mut self) -> Result<(), AllocError> {
+        if let Some(answer) = &self.answer {
+            let space = if self.first == 0 { "" } else { " " };
+            let (first, last) = (self.first, self.next.saturating_sub(1));
+            let run = format!(in self.alloc; "{space}{first}-{last} {answer}")?;
+            self.text.push_str(run.as_str())?;
+        }
+        self.first = self.next;
+        Ok(())
     }
 }

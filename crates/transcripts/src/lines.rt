@@ -26,31 +26,15 @@ pub fn put(block: &mut Block, bytes: &[u8])
     let _ = block.try_extend_from_slice(bytes);
 }
 
-/// The frame of a statement: its length, the type 03, and its seven bytes.
-pub(crate) fn frame(statement: &Statement) -> [u8; 10]
-    ensures { result ≡ frame_bytes (message.Statement statement.now) }
+/// Puts the first line of a transcript into the block, with the byte 10 at its end: the question,
+/// the bit that it was decided for, and how many lines follow. It has at most 50 bytes.
+pub fn put_head(block: &mut Block, question: u16, bit: bool, count: u64)
+    requires { array_vec_len block.old + 64 ≤ 4096 }
+    ensures items { block.new.items ≡ block.old.items ++ line (head_line question bit count) }
+    ensures len { array_vec_len block.new ≤ array_vec_len block.old + 64 }
 {
-    let [kind, high, low, origin, round, step, value] = statement_bytes(statement);
-    [0, 8, 3, kind, high, low, origin, round, step, value]
-}
-
-/// The words between the question and the count.
-pub(crate) fn bit_words(bit: bool) -> &'static str
-    ensures { result.now ≡ bit_words bit }
-{
-    match bit {
-        true => "bit 1 count ",
-        false => "bit 0 count ",
-    }
-}
-
-/// The digits of a frame, in lower case.
-pub(crate) fn hex_digits(frame: &[u8; 10]) -> [u8; 20]
-    ensures { result ≡ encode_lower frame.now }
-{
-    let mut digits = [0; 20];
-    let _ = encode_to_slice(frame, &mut digits);
-    digits
+    put_first_words(block, question, bit, count);
+    put(block, b"\n");
 }
 
 /// Puts the words of the first line into the block.
@@ -67,6 +51,27 @@ pub(crate) fn put_first_words(block: &mut Block, question: u16, bit: bool, count
     put(block, digits.format(count).as_bytes());
 }
 
+/// The words between the question and the count.
+pub(crate) fn bit_words(bit: bool) -> &'static str
+    ensures { result.now ≡ bit_words bit }
+{
+    match bit {
+        true => "bit 1 count ",
+        false => "bit 0 count ",
+    }
+}
+
+/// Puts the line of one statement and its sender into the block, with the byte 10 at its end. It
+/// has at most 25 bytes.
+pub fn put_pair(block: &mut Block, pair: &(u8, Statement))
+    requires { array_vec_len block.old + 32 ≤ 4096 }
+    ensures items { block.new.items ≡ block.old.items ++ line (pair_line pair.now) }
+    ensures len { array_vec_len block.new ≤ array_vec_len block.old + 32 }
+{
+    put_words(block, pair);
+    put(block, b"\n");
+}
+
 /// Puts the words of a statement's line into the block.
 pub(crate) fn put_words(block: &mut Block, pair: &(u8, Statement))
     requires { array_vec_len block.old + 31 ≤ 4096 }
@@ -79,24 +84,19 @@ pub(crate) fn put_words(block: &mut Block, pair: &(u8, Statement))
     put(block, &hex_digits(&frame(&pair.1)));
 }
 
-/// Puts the first line of a transcript into the block, with the byte 10 at its end: the question,
-/// the bit that it was decided for, and how many lines follow. It has at most 50 bytes.
-pub fn put_head(block: &mut Block, question: u16, bit: bool, count: u64)
-    requires { array_vec_len block.old + 64 ≤ 4096 }
-    ensures items { block.new.items ≡ block.old.items ++ line (head_line question bit count) }
-    ensures len { array_vec_len block.new ≤ array_vec_len block.old + 64 }
+/// The digits of a frame, in lower case.
+pub(crate) fn hex_digits(frame: &[u8; 10]) -> [u8; 20]
+    ensures { result ≡ encode_lower frame.now }
 {
-    put_first_words(block, question, bit, count);
-    put(block, b"\n");
+    let mut digits = [0; 20];
+    let _ = encode_to_slice(frame, &mut digits);
+    digits
 }
 
-/// Puts the line of one statement and its sender into the block, with the byte 10 at its end. It
-/// has at most 25 bytes.
-pub fn put_pair(block: &mut Block, pair: &(u8, Statement))
-    requires { array_vec_len block.old + 32 ≤ 4096 }
-    ensures items { block.new.items ≡ block.old.items ++ line (pair_line pair.now) }
-    ensures len { array_vec_len block.new ≤ array_vec_len block.old + 32 }
+/// The frame of a statement: its length, the type 03, and its seven bytes.
+pub(crate) fn frame(statement: &Statement) -> [u8; 10]
+    ensures { result ≡ frame_bytes (message.Statement statement.now) }
 {
-    put_words(block, pair);
-    put(block, b"\n");
+    let [kind, high, low, origin, round, step, value] = statement_bytes(statement);
+    [0, 8, 3, kind, high, low, origin, round, step, value]
 }

@@ -29,14 +29,6 @@ pub(crate) struct Head {
     pub(crate) count: u64,
 }
 
-/// Returns the place of the first byte 10.
-fn first_end(text: &[u8]) -> Option<usize>
-    ensures value { result ≡ position_from is_end 0 text.now }
-    ensures within { IfSome result (λ at. at < length text.now) }
-{
-    text.iter().position(|byte| *byte == b'\n')
-}
-
 /// The first line of a text that isn't empty, and what stands behind its end.
 pub(crate) fn cut_line(text: &[u8]) -> (&[u8], &[u8])
     requires { 0 < length text.now }
@@ -48,42 +40,12 @@ pub(crate) fn cut_line(text: &[u8]) -> (&[u8], &[u8])
     }
 }
 
-/// The bit that the words name, and the word behind them.
-fn bit_of(words: &[u8]) -> Option<(bool, &[u8])>
-    ensures { (bit : Bool) (count : List ℕ) → words.now ≡ bit_words bit ++ count →
-        MatchOption result ⊥ (λ found. (found.0 ≡ bit) × (found.1.now ≡ count)) }
+/// Returns the place of the first byte 10.
+fn first_end(text: &[u8]) -> Option<usize>
+    ensures value { result ≡ position_from is_end 0 text.now }
+    ensures within { IfSome result (λ at. at < length text.now) }
 {
-    match behind(words, "bit 0 count ") {
-        Some(count) => Some((false, count)),
-        None => match behind(words, "bit 1 count ") {
-            Some(count) => Some((true, count)),
-            None => None,
-        },
-    }
-}
-
-/// Returns what the words of a first line say.
-fn head_of(line: &[u8]) -> Option<Head>
-    ensures { (question : ℕ) (bit : Bool) (count : ℕ) → question < 2 ^ 16 → count < 2 ^ 64 →
-        line.now ≡ head_line question bit count →
-        result ≡ Some (record { question = question; bit = bit; count = count }) }
-{
-    let (question, rest) = split_at_space(behind(line, "transcript ")?)?;
-    let (bit, count) = bit_of(rest)?;
-    Some(Head {
-        question: number16(question)?,
-        bit,
-        count: number(count)?,
-    })
-}
-
-/// Returns `true` if the line is spelled as the first line that says this.
-fn is_spelled(line: &[u8], head: Head) -> bool
-    ensures { IsTrue result ↔ (line.now ≡ head_line head.question head.bit head.count) }
-{
-    let mut spelled = Block::new();
-    put_first_words(&mut spelled, head.question, head.bit, head.count);
-    line == spelled.as_slice()
+    text.iter().position(|byte| *byte == b'\n')
 }
 
 /// Returns how many lines follow a first line, of whatever cluster; none where the line is none.
@@ -116,16 +78,68 @@ pub(crate) fn head_from(size: Size, line: &[u8]) -> Option<Head>
     }
 }
 
-/// The ten bytes that twenty digits write.
-fn bytes_of(digits: &[u8]) -> Option<[u8; 10]>
-    ensures { (bytes : List ℕ) → length bytes ≡ 10 → IsBytes bytes →
-        digits.now ≡ encode_lower bytes → result ≡ Some bytes }
+/// Returns what the words of a first line say.
+fn head_of(line: &[u8]) -> Option<Head>
+    ensures { (question : ℕ) (bit : Bool) (count : ℕ) → question < 2 ^ 16 → count < 2 ^ 64 →
+        line.now ≡ head_line question bit count →
+        result ≡ Some (record { question = question; bit = bit; count = count }) }
 {
-    let mut bytes = [0; 10];
-    match decode_to_slice(digits, &mut bytes) {
-        Ok(()) => Some(bytes),
-        Err(_) => None,
+    let (question, rest) = split_at_space(behind(line, "transcript ")?)?;
+    let (bit, count) = bit_of(rest)?;
+    Some(Head {
+        question: number16(question)?,
+        bit,
+        count: number(count)?,
+    })
+}
+
+/// The bit that the words name, and the word behind them.
+fn bit_of(words: &[u8]) -> Option<(bool, &[u8])>
+    ensures { (bit : Bool) (count : List ℕ) → words.now ≡ bit_words bit ++ count →
+        MatchOption result ⊥ (λ found. (found.0 ≡ bit) × (found.1.now ≡ count)) }
+{
+    match behind(words, "bit 0 count ") {
+        Some(count) => Some((false, count)),
+        None => match behind(words, "bit 1 count ") {
+            Some(count) => Some((true, count)),
+            None => None,
+        },
     }
+}
+
+/// Returns `true` if the line is spelled as the first line that says this.
+fn is_spelled(line: &[u8], head: Head) -> bool
+    ensures { IsTrue result ↔ (line.now ≡ head_line head.question head.bit head.count) }
+{
+    let mut spelled = Block::new();
+    put_first_words(&mut spelled, head.question, head.bit, head.count);
+    line == spelled.as_slice()
+}
+
+/// The sender and the statement of a line, for a cluster of that size; none where it is no such
+/// line.
+pub(crate) fn pair_from(size: Size, line: &[u8]) -> Option<(u8, Statement)>
+    ensures some { IfSome result (λ pair. FitsPair size pair × (line.now ≡ pair_line pair)) }
+    ensures exact { (pair : ℕ × Statement) → FitsPair size pair → line.now ≡ pair_line pair →
+        result ≡ Some pair }
+{
+    match pair_of(size, line) {
+        Some(pair) if pair.0 < size.n() && is_pair_spelled(line, &pair) => Some(pair),
+        _ => None,
+    }
+}
+
+/// The sender and the statement that a line's words name.
+fn pair_of(size: Size, line: &[u8]) -> Option<(u8, Statement)>
+    ensures fits { IfSome result (λ pair. IsWellFormed size pair.1) }
+    ensures exact { (pair : ℕ × Statement) → FitsPair size pair → line.now ≡ pair_line pair →
+        result ≡ Some pair }
+{
+    size.recall();
+    let (from, digits) = split_at_space(line)?;
+    let from = number8(from)?;
+    let statement = statement_of(size, bytes_of(digits)?)?;
+    Some((from, statement))
 }
 
 /// The statement of a frame. The frame's first three bytes aren't looked at.
@@ -143,17 +157,16 @@ fn statement_of(size: Size, frame: [u8; 10]) -> Option<Statement>
     Statement::new(kind_of(kind)?, place, value_of(value)?)
 }
 
-/// The sender and the statement that a line's words name.
-fn pair_of(size: Size, line: &[u8]) -> Option<(u8, Statement)>
-    ensures fits { IfSome result (λ pair. IsWellFormed size pair.1) }
-    ensures exact { (pair : ℕ × Statement) → FitsPair size pair → line.now ≡ pair_line pair →
-        result ≡ Some pair }
+/// The ten bytes that twenty digits write.
+fn bytes_of(digits: &[u8]) -> Option<[u8; 10]>
+    ensures { (bytes : List ℕ) → length bytes ≡ 10 → IsBytes bytes →
+        digits.now ≡ encode_lower bytes → result ≡ Some bytes }
 {
-    size.recall();
-    let (from, digits) = split_at_space(line)?;
-    let from = number8(from)?;
-    let statement = statement_of(size, bytes_of(digits)?)?;
-    Some((from, statement))
+    let mut bytes = [0; 10];
+    match decode_to_slice(digits, &mut bytes) {
+        Ok(()) => Some(bytes),
+        Err(_) => None,
+    }
 }
 
 /// Returns `true` if the line is spelled as that of this sender and statement.
@@ -163,17 +176,4 @@ fn is_pair_spelled(line: &[u8], pair: &(u8, Statement)) -> bool
     let mut spelled = Block::new();
     put_words(&mut spelled, pair);
     line == spelled.as_slice()
-}
-
-/// The sender and the statement of a line, for a cluster of that size; none where it is no such
-/// line.
-pub(crate) fn pair_from(size: Size, line: &[u8]) -> Option<(u8, Statement)>
-    ensures some { IfSome result (λ pair. FitsPair size pair × (line.now ≡ pair_line pair)) }
-    ensures exact { (pair : ℕ × Statement) → FitsPair size pair → line.now ≡ pair_line pair →
-        result ≡ Some pair }
-{
-    match pair_of(size, line) {
-        Some(pair) if pair.0 < size.n() && is_pair_spelled(line, &pair) => Some(pair),
-        _ => None,
-    }
 }

@@ -15,13 +15,20 @@ pub struct Trial {
     pub least: usize,
 }
 
-/// The numbers of a script's cluster. Its liars are its last members.
-#[derive(Clone, Copy, Debug, PartialEq, Eq)]
-struct Cast {
-    n: u32,
-    t: u32,
-    liars: u32,
-    questions: u32,
+/// Returns the script of this number that is drawn by the seed: up to three lines of `random` and
+/// `fair` events; in three of four scripts the lines that settle each question follow.
+pub fn drawn(alloc: Global, seed: u64, number: u64) -> Result<Trial, AllocError> {
+    let mut draw = draw_of(seed, number);
+    let cast = drawn_cast(&mut draw);
+    let mut text = head_text(alloc, cast, draw.toss().0)?;
+    add_troubles(&mut text, alloc, &mut draw)?;
+    if below(&mut draw, 4) == 0 {
+        return Ok(Trial { text, least: 0 });
+    }
+    add_settling(&mut text, alloc, cast, &mut draw)?;
+    let correct = cast.n.saturating_sub(cast.liars) as usize;
+    let least = correct * (cast.questions as usize);
+    Ok(Trial { text, least })
 }
 
 /// Returns the draws of the script of this number.
@@ -32,26 +39,6 @@ fn draw_of(seed: u64, number: u64) -> ChaChaTosser {
         0, 0, 0, 0, 0, 0, 0, 0, 0, 0,
     ];
     ChaChaTosser::from_seed(key, number)
-}
-
-/// Returns a number below `bound`.
-fn below(draw: &mut ChaChaTosser, bound: u32) -> u32
-    requires { 0 < bound }
-    ensures { result < bound }
-{
-    (draw.toss().0 % u64::from(bound)) as u32
-}
-
-/// Returns the number of members: 1 to 10, and 11 to 22 in one script of 16.
-fn members(draw: &mut ChaChaTosser) -> u32
-    ensures least { 1 ≤ result }
-    ensures most { result ≤ 22 }
-{
-    if below(draw, 16) == 0 {
-        11 + below(draw, 12)
-    } else {
-        1 + below(draw, 10)
-    }
 }
 
 /// Returns the numbers of a cluster.
@@ -71,6 +58,18 @@ fn drawn_cast(draw: &mut ChaChaTosser) -> Cast
         t,
         liars,
         questions,
+    }
+}
+
+/// Returns the number of members: 1 to 10, and 11 to 22 in one script of 16.
+fn members(draw: &mut ChaChaTosser) -> u32
+    ensures least { 1 ≤ result }
+    ensures most { result ≤ 22 }
+{
+    if below(draw, 16) == 0 {
+        11 + below(draw, 12)
+    } else {
+        1 + below(draw, 10)
     }
 }
 
@@ -110,40 +109,6 @@ fn add_troubles(
     Ok(())
 }
 
-/// Adds the lines after which each correct member is up, with a sound disk and its links anew.
-fn add_repairs(text: &mut String, alloc: Global, correct: u32) -> Result<(), AllocError> {
-    for member in 0..correct {
-        let line = format!(in alloc; "fuse {member} off\ncrash {member} kept\nrestart {member}\n")?;
-        text.push_str(line.as_str())?;
-    }
-    Ok(())
-}
-
-/// Adds a proposal to each correct member on this question, each with a bit of its own, or all with
-/// one.
-fn add_proposals(
-    text: &mut String,
-    alloc: Global,
-    correct: u32,
-    question: u32,
-    bits: u64,
-) -> Result<(), AllocError> {
-    for member in 0..correct {
-        let bit = (bits >> (member % 64)) & 1;
-        text.push_str(format!(in alloc; "propose {member} {question} {bit}\n")?.as_str())?;
-    }
-    Ok(())
-}
-
-/// Returns the bits that are proposed: drawn, or all 0, or all 1.
-fn drawn_bits(draw: &mut ChaChaTosser) -> u64 {
-    match below(draw, 4) {
-        0 => 0,
-        1 => u64::MAX,
-        _ => draw.toss().0,
-    }
-}
-
 /// Adds the lines that settle each question: repairs, a proposal to each correct member on each,
 /// and a fair part of 400 passes of the deck of links.
 fn add_settling(
@@ -164,18 +129,53 @@ fn add_settling(
     text.push_str(format!(in alloc; "fair {events}\n")?.as_str())
 }
 
-/// Returns the script of this number that is drawn by the seed: up to three lines of `random` and
-/// `fair` events; in three of four scripts the lines that settle each question follow.
-pub fn drawn(alloc: Global, seed: u64, number: u64) -> Result<Trial, AllocError> {
-    let mut draw = draw_of(seed, number);
-    let cast = drawn_cast(&mut draw);
-    let mut text = head_text(alloc, cast, draw.toss().0)?;
-    add_troubles(&mut text, alloc, &mut draw)?;
-    if below(&mut draw, 4) == 0 {
-        return Ok(Trial { text, least: 0 });
+/// The numbers of a script's cluster. Its liars are its last members.
+#[derive(Clone, Copy, Debug, PartialEq, Eq)]
+struct Cast {
+    n: u32,
+    t: u32,
+    liars: u32,
+    questions: u32,
+}
+
+/// Adds the lines after which each correct member is up, with a sound disk and its links anew.
+fn add_repairs(text: &mut String, alloc: Global, correct: u32) -> Result<(), AllocError> {
+    for member in 0..correct {
+        let line = format!(in alloc; "fuse {member} off\ncrash {member} kept\nrestart {member}\n")?;
+        text.push_str(line.as_str())?;
     }
-    add_settling(&mut text, alloc, cast, &mut draw)?;
-    let correct = cast.n.saturating_sub(cast.liars) as usize;
-    let least = correct * (cast.questions as usize);
-    Ok(Trial { text, least })
+    Ok(())
+}
+
+/// Returns the bits that are proposed: drawn, or all 0, or all 1.
+fn drawn_bits(draw: &mut ChaChaTosser) -> u64 {
+    match below(draw, 4) {
+        0 => 0,
+        1 => u64::MAX,
+        _ => draw.toss().0,
+    }
+}
+
+/// Returns a number below `bound`.
+fn below(draw: &mut ChaChaTosser, bound: u32) -> u32
+    requires { 0 < bound }
+    ensures { result < bound }
+{
+    (draw.toss().0 % u64::from(bound)) as u32
+}
+
+/// Adds a proposal to each correct member on this question, each with a bit of its own, or all with
+/// one.
+fn add_proposals(
+    text: &mut String,
+    alloc: Global,
+    correct: u32,
+    question: u32,
+    bits: u64,
+) -> Result<(), AllocError> {
+    for member in 0..correct {
+        let bit = (bits >> (member % 64)) & 1;
+        text.push_str(format!(in alloc; "propose {member} {question} {bit}\n")?.as_str())?;
+    }
+    Ok(())
 }

@@ -71,6 +71,140 @@ pub fn is_word(word: &[u8], name: &str) -> bool
     word == name.as_bytes()
 }
 
+/// Returns the notes of a trace, in order.
+pub fn notes(alloc: Global, trace: &[u8]) -> Result<Vec<Note<'_>>, AllocError>
+    ensures { IfOk result (λ notes. notes.items ≡ spec.notes_of trace.now) }
+{
+    notes_among(alloc, &lines(alloc, trace)?)
+}
+
+/// Returns the notes of these lines, in order.
+fn notes_among<'a>(alloc: Global, lines: &[&'a [u8]]) -> Result<Vec<Note<'a>>, AllocError>
+    ensures { IfOk result (λ notes. notes.items ≡ flat_map spec.line_notes (texts lines.now)) }
+{
+    let mut notes = Vec::new(alloc);
+    for line in lines {
+        add_notes(alloc, &mut notes, line)?;
+    }
+    Ok(notes)
+}
+
+/// Returns the lines of a text, and what stands behind the last.
+fn lines(alloc: Global, text: &[u8]) -> Result<Vec<&[u8]>, AllocError>
+    ensures { IfOk result (λ lines. texts lines.items ≡ slice_split (λ byte. byte == 10) text.now) }
+{
+    text.split(|byte| *byte == b'\n').collect(alloc)
+}
+
+/// Adds the notes of a line.
+fn add_notes<'a>(alloc: Global, notes: &mut Vec<Note<'a>>, line: &'a [u8]) -> Result<(), AllocError>
+    ensures { OnOk result (notes.new.items ≡ notes.old.items ++ spec.line_notes line.now) }
+{
+    let words = words(alloc, line)?;
+    add_notes_in(notes, member_in(&words), &words)
+}
+
+/// Adds the notes of these words of a line about this member.
+fn add_notes_in<'a>(
+    notes: &mut Vec<Note<'a>>,
+    member: &'a [u8],
+    words: &[&'a [u8]],
+) -> Result<(), AllocError>
+    ensures { OnOk result
+        (notes.new.items ≡ notes.old.items ++ spec.notes_in member.now (texts words.now)) }
+{
+    for place in 0..words.len() {
+        add_note(notes, note_at(member, behind(words, place)))?;
+    }
+    Ok(())
+}
+
+/// Adds the note, if there is one.
+fn add_note<'a>(notes: &mut Vec<Note<'a>>, note: Option<Note<'a>>) -> Result<(), AllocError>
+    ensures { OnOk result (notes.new.items ≡ notes.old.items ++ spec.one_of note.entry) }
+{
+    if let Some(note) = note {
+        notes.push(note)?;
+    }
+    Ok(())
+}
+
+/// Returns the note with which these words begin, in a line about this member.
+fn note_at<'a>(member: &'a [u8], words: &[&'a [u8]]) -> Option<Note<'a>>
+    ensures { result ≡ spec.note_at member.now (texts words.now) }
+{
+    if is_decided(words) {
+        return Some(Note {
+            is_decision: true,
+            member,
+            question: word_at(words, 1),
+            bit: word_at(words, 3),
+        });
+    }
+    if is_proposed(words) {
+        return Some(Note {
+            is_decision: false,
+            member: word_at(words, 2),
+            question: word_at(words, 1),
+            bit: word_at(words, 5),
+        });
+    }
+    None
+}
+
+/// Returns `true` if the words begin with a decision: `decided QUESTION ROUND BIT`.
+fn is_decided(words: &[&[u8]]) -> bool
+    ensures { result ≡ spec.is_decided (texts words.now) }
+{
+    is_word(word_at(words, 0), "decided")
+}
+
+/// Returns `true` if the words begin with the first Initial of a member, `initial QUESTION MEMBER 1
+/// 1 VALUE`.
+fn is_proposed(words: &[&[u8]]) -> bool
+    ensures { result ≡ spec.is_proposed (texts words.now) }
+{
+    is_word(word_at(words, 0), "initial")
+        && is_word(word_at(words, 3), "1")
+        && is_word(word_at(words, 4), "1")
+}
+
+/// Returns the words from this place on.
+fn behind<'a, 'b>(words: &'b [&'a [u8]], place: usize) -> &'b [&'a [u8]]
+    requires { place ≤ length words.now }
+    ensures { result.now ≡ drop place words.now }
+{
+    &words[place..]
+}
+
+/// Returns the member whose event the line is about.
+fn member_in<'a>(words: &[&'a [u8]]) -> &'a [u8]
+    ensures { result.now ≡ spec.member_in (texts words.now) }
+{
+    if is_own(word_at(words, 1)) {
+        word_at(words, 2)
+    } else {
+        word_at(words, 3)
+    }
+}
+
+/// Returns `true` if the event names its member first.
+fn is_own(event: &[u8]) -> bool
+    ensures { result ≡ spec.is_own event.now }
+{
+    is_word(event, "propose") || is_word(event, "restart")
+}
+
+/// Returns the word of that place, or an empty one.
+fn word_at<'a>(words: &[&'a [u8]], place: usize) -> &'a [u8]
+    ensures { result.now ≡ spec.word_at (texts words.now) place }
+{
+    match words.get(place) {
+        Some(word) => word,
+        None => &[],
+    }
+}
+
 /// Returns `true` if the byte stands between two words: a blank, a comma or a colon.
 fn is_mark(byte: u8) -> bool
     ensures { result ≡ spec.is_mark byte }
@@ -110,138 +244,4 @@ fn words(alloc: Global, line: &[u8]) -> Result<Vec<&[u8]>, AllocError>
     ensures { IfOk result (λ words. texts words.items ≡ spec.words_of line.now) }
 {
     words_among(alloc, &pieces(alloc, line)?)
-}
-
-/// Returns the word of that place, or an empty one.
-fn word_at<'a>(words: &[&'a [u8]], place: usize) -> &'a [u8]
-    ensures { result.now ≡ spec.word_at (texts words.now) place }
-{
-    match words.get(place) {
-        Some(word) => word,
-        None => &[],
-    }
-}
-
-/// Returns `true` if the event names its member first.
-fn is_own(event: &[u8]) -> bool
-    ensures { result ≡ spec.is_own event.now }
-{
-    is_word(event, "propose") || is_word(event, "restart")
-}
-
-/// Returns the member whose event the line is about.
-fn member_in<'a>(words: &[&'a [u8]]) -> &'a [u8]
-    ensures { result.now ≡ spec.member_in (texts words.now) }
-{
-    if is_own(word_at(words, 1)) {
-        word_at(words, 2)
-    } else {
-        word_at(words, 3)
-    }
-}
-
-/// Returns `true` if the words begin with a decision: `decided QUESTION ROUND BIT`.
-fn is_decided(words: &[&[u8]]) -> bool
-    ensures { result ≡ spec.is_decided (texts words.now) }
-{
-    is_word(word_at(words, 0), "decided")
-}
-
-/// Returns `true` if the words begin with the first Initial of a member, `initial QUESTION MEMBER 1
-/// 1 VALUE`.
-fn is_proposed(words: &[&[u8]]) -> bool
-    ensures { result ≡ spec.is_proposed (texts words.now) }
-{
-    is_word(word_at(words, 0), "initial")
-        && is_word(word_at(words, 3), "1")
-        && is_word(word_at(words, 4), "1")
-}
-
-/// Returns the note with which these words begin, in a line about this member.
-fn note_at<'a>(member: &'a [u8], words: &[&'a [u8]]) -> Option<Note<'a>>
-    ensures { result ≡ spec.note_at member.now (texts words.now) }
-{
-    if is_decided(words) {
-        return Some(Note {
-            is_decision: true,
-            member,
-            question: word_at(words, 1),
-            bit: word_at(words, 3),
-        });
-    }
-    if is_proposed(words) {
-        return Some(Note {
-            is_decision: false,
-            member: word_at(words, 2),
-            question: word_at(words, 1),
-            bit: word_at(words, 5),
-        });
-    }
-    None
-}
-
-/// Returns the words from this place on.
-fn behind<'a, 'b>(words: &'b [&'a [u8]], place: usize) -> &'b [&'a [u8]]
-    requires { place ≤ length words.now }
-    ensures { result.now ≡ drop place words.now }
-{
-    &words[place..]
-}
-
-/// Adds the note, if there is one.
-fn add_note<'a>(notes: &mut Vec<Note<'a>>, note: Option<Note<'a>>) -> Result<(), AllocError>
-    ensures { OnOk result (notes.new.items ≡ notes.old.items ++ spec.one_of note.entry) }
-{
-    if let Some(note) = note {
-        notes.push(note)?;
-    }
-    Ok(())
-}
-
-/// Adds the notes of these words of a line about this member.
-fn add_notes_in<'a>(
-    notes: &mut Vec<Note<'a>>,
-    member: &'a [u8],
-    words: &[&'a [u8]],
-) -> Result<(), AllocError>
-    ensures { OnOk result
-        (notes.new.items ≡ notes.old.items ++ spec.notes_in member.now (texts words.now)) }
-{
-    for place in 0..words.len() {
-        add_note(notes, note_at(member, behind(words, place)))?;
-    }
-    Ok(())
-}
-
-/// Adds the notes of a line.
-fn add_notes<'a>(alloc: Global, notes: &mut Vec<Note<'a>>, line: &'a [u8]) -> Result<(), AllocError>
-    ensures { OnOk result (notes.new.items ≡ notes.old.items ++ spec.line_notes line.now) }
-{
-    let words = words(alloc, line)?;
-    add_notes_in(notes, member_in(&words), &words)
-}
-
-/// Returns the lines of a text, and what stands behind the last.
-fn lines(alloc: Global, text: &[u8]) -> Result<Vec<&[u8]>, AllocError>
-    ensures { IfOk result (λ lines. texts lines.items ≡ slice_split (λ byte. byte == 10) text.now) }
-{
-    text.split(|byte| *byte == b'\n').collect(alloc)
-}
-
-/// Returns the notes of these lines, in order.
-fn notes_among<'a>(alloc: Global, lines: &[&'a [u8]]) -> Result<Vec<Note<'a>>, AllocError>
-    ensures { IfOk result (λ notes. notes.items ≡ flat_map spec.line_notes (texts lines.now)) }
-{
-    let mut notes = Vec::new(alloc);
-    for line in lines {
-        add_notes(alloc, &mut notes, line)?;
-    }
-    Ok(notes)
-}
-
-/// Returns the notes of a trace, in order.
-pub fn notes(alloc: Global, trace: &[u8]) -> Result<Vec<Note<'_>>, AllocError>
-    ensures { IfOk result (λ notes. notes.items ≡ spec.notes_of trace.now) }
-{
-    notes_among(alloc, &lines(alloc, trace)?)
 }

@@ -22,30 +22,6 @@ pub struct Votes {
     one: u64,
 }
 
-/// The value that speaks for 0, in step 3 or in another.
-pub fn zero_value(third: bool) -> Value
-    ensures { result ≡ zero_value third }
-{
-    if third { Value::SureZero } else { Value::Zero }
-}
-
-/// The value that speaks for 1, in step 3 or in another.
-pub fn one_value(third: bool) -> Value
-    ensures { result ≡ one_value third }
-{
-    if third { Value::SureOne } else { Value::One }
-}
-
-/// Returns `true` if it is a value of step 3, or of another.
-pub fn fits(third: bool, value: Value) -> bool
-    ensures { result ≡ fits third value }
-{
-    match value {
-        Value::Zero | Value::One => !third,
-        Value::SureZero | Value::SureOne | Value::Unsure => third,
-    }
-}
-
 impl Votes {
     /// Nobody sent anything.
     #[tactic(auto, unfolding(crate::specs::Votes::no_votes))]
@@ -126,6 +102,30 @@ impl Votes {
             Value::One | Value::SureOne => any ^ self.zero,
             Value::Unsure => self.zero & self.one,
         }
+    }
+}
+
+/// The value that speaks for 0, in step 3 or in another.
+pub fn zero_value(third: bool) -> Value
+    ensures { result ≡ zero_value third }
+{
+    if third { Value::SureZero } else { Value::Zero }
+}
+
+/// The value that speaks for 1, in step 3 or in another.
+pub fn one_value(third: bool) -> Value
+    ensures { result ≡ one_value third }
+{
+    if third { Value::SureOne } else { Value::One }
+}
+
+/// Returns `true` if it is a value of step 3, or of another.
+pub fn fits(third: bool, value: Value) -> bool
+    ensures { result ≡ fits third value }
+{
+    match value {
+        Value::Zero | Value::One => !third,
+        Value::SureZero | Value::SureOne | Value::Unsure => third,
     }
 }
 
