@@ -1,4 +1,4 @@
-//! The work of each command: begin at `work`, last.
+//! The work of each command: begin at `work`.
 
 use command_line::{
     AskWords, AuditWords, DecideWords, EpochsWords, GatewayWords, HearWords, NewClusterWords,

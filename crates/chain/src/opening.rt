@@ -1,4 +1,4 @@
-//! The epochs that a member runs: begin at `Chain::is_open`, and then `Chain::route`, last.
+//! The epochs that a member runs: begin at `Chain::is_open`, and then `Chain::route`.
 
 ghost use Rattle.std.specs.Prelude.{ℕ, ◌≡◌, ◌↔◌, IfSome, IsNone, IsTrue};
 ghost use Rattle.terms_prelude.specs.Terms.{count_below};

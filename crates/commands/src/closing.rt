@@ -1,5 +1,5 @@
 //! The epochs of a chain that each member of a cluster has closed, and what the command `epochs`
-//! prints of them: begin at `told_of` and `tell_epochs`, last.
+//! prints of them: begin at `told_of` and `tell_epochs`.
 
 ghost use Rattle.std.specs.Prelude.{[], ◌≡◌, ◌≢◌, ◌∷◌, ◌++◌, ◌↔◌, Err, IfOk, IfSome, IsTrue, Some, false, option_map, string_bytes, true};
 ghost use Rattle.std.specs.Io.KnownBytes.{Appends, Consumes};

@@ -1,4 +1,4 @@
-//! A client that follows decisions: begin at `Follower::tell`, last.
+//! A client that follows decisions: begin at `Follower::tell`.
 
 ghost use Rattle.std.specs.Prelude.{ℕ, List, [], ◌∷◌, ◌≡◌, ◌≢◌, ◌≤◌, ◌+◌, ◌++◌, drop, length, IfOk};
 ghost use Rattle.arrayvec.specs.ArrayVec.{array_vec_len};

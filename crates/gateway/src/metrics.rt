@@ -1,4 +1,4 @@
-//! The text for Prometheus: begin at `metrics_text`, last.
+//! The text for Prometheus: begin at `metrics_text`.
 
 ghost use Rattle.std.specs.Prelude.{◌≡◌, ◌++◌, ℕ, IfOk, List, codes, is_some, count_by, string_bytes};
 ghost use Rattle.std.specs.Fmt.{decimal};

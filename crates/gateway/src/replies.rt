@@ -1,4 +1,4 @@
-//! The lines of a desk, as the gateway reads them: begin at `reply_of`, last.
+//! The lines of a desk, as the gateway reads them: begin at `reply_of`.
 
 ghost use Rattle.std.specs.Prelude.{IfSome, IsTrue};
 ghost use Rattle.gateway.specs.Replies.{AreLinks, AreQuestionAndBit, AreTwo, Says};

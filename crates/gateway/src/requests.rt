@@ -1,4 +1,4 @@
-//! Requests, and what is to be done for one: begin at `task_of`, last.
+//! Requests, and what is to be done for one: begin at `task_of`.
 
 ghost use Rattle.std.specs.Prelude.{◌≡◌, IfErr, IfOk, IfSome, IsNone};
 ghost use Rattle.gateway.specs.declared.guards.Policy.{Policy};

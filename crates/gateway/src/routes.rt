@@ -1,4 +1,4 @@
-//! The paths of requests: begin at `route_of`, last.
+//! The paths of requests: begin at `route_of`.
 
 ghost use Rattle.std.specs.Prelude.{◌≡◌, ◌++◌, ℕ, List, IfSome, IsNone, MatchOption, codes};
 ghost use Rattle.gateway.specs.Routes.{IsListPath, IsPlainPath, IsQuestionPath, IsQuestionRest, IsRoute, IsTranscriptRest};

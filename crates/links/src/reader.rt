@@ -1,4 +1,4 @@
-//! The reader of a link: begin at `read_link`, last.
+//! The reader of a link: begin at `read_link`.
 ghost use Rattle.std.specs.Prelude.{◌≡◌, ◌⊎◌, ◌<◌, ◌≤◌, ◌∷◌, ◌++◌, length, List, [], ℕ, true, false, IfOk, IfErr, IsErrOf, OnOk, OnErr};
 ghost use Rattle.wire.specs.Reading.{AreBytes};
 ghost use Rattle.node.specs.Groups.{said_in, heard_from};

@@ -1,4 +1,4 @@
-//! The writer of a link: begin at `write_link`, last.
+//! The writer of a link: begin at `write_link`.
 ghost use Rattle.std.specs.Prelude.{◌≡◌, ◌+◌, ◌<◌, ◌≤◌, ◌^◌, true, length, vec_len, IfOk, IfErr};
 ghost use Rattle.wire.specs.Texts.{frame_bytes};
 ghost use Rattle.wire.specs.declared.message.Message.TheVariants as message;

@@ -1,5 +1,5 @@
 //! The line in front of the book: what several links hand in while a batch is on its way to the
-//! disk is heard as one group. Begin at `Line`, and at `hear`, last.
+//! disk is heard as one group. Begin at `Line`, and at `hear`.
 ghost use Rattle.std.specs.Prelude.{◌≡◌, IfSome, IsTrue, List, Result};
 ghost use Rattle.member.specs.Groups.{hearings};
 ghost use Rattle.member.specs.declared.fault.MemberFault.{MemberFault};
@@ -21,7 +21,8 @@ use terms::{Memory, Statement};
 /// The most groups in a row for which the bell isn't rung.
 const QUIET: u32 = 7;
 
-/// The most statements that a read of a link gives: it is of 512 bytes, and each takes seven.
+/// The most statements that most reads of a link give: a read is of 512 bytes, and each statement
+/// takes seven of them. A read that ends a frame whose front came before may give up to 171.
 const READ: usize = 73;
 
 /// The outcome of statements that wait for the book: it heard them, and this is its account then;
@@ -117,8 +118,8 @@ impl<D, J: Naming> Line<D, J> {
         })
     }
 
-    /// What this link hands in waits from now on. A link waits for one answer at a time. False
-    /// where there is no such link.
+    /// Puts what this link hands in into its place, where it waits. A link waits for one answer at
+    /// a time. False where there is no such link.
     pub(crate) fn enter(&mut self, link: u8, events: Vec<(u8, Statement, Toss)>) -> bool {
         match self.slots.get_mut(usize::from(link)) {
             Some(slot) => {

@@ -1,4 +1,4 @@
-//! The thread that asks a member how it is, and makes proposals to it: begin at `ask_on`, last.
+//! The thread that asks a member how it is, and makes proposals to it: begin at `ask_on`.
 
 use crate::book::Motion;
 use crate::deadline::Deadline;

@@ -1,4 +1,4 @@
-//! Transcripts of members: begin at `fetch`, last.
+//! Transcripts of members: begin at `fetch`.
 
 use crate::deadline::Deadline;
 use crate::following::{PROMPT, connect};

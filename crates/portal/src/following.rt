@@ -1,4 +1,4 @@
-//! The thread that follows a member's decisions: begin at `follow_on`, last.
+//! The thread that follows a member's decisions: begin at `follow_on`.
 
 use crate::deadline::Deadline;
 use crate::lines::DeskLines;

@@ -1,4 +1,4 @@
-//! The connections of a gateway's clients, and its start: begin at `open`, last.
+//! The connections of a gateway's clients, and its start: begin at `open`.
 
 ghost use Rattle.std.specs.Io.{ReadsAtMost, WritesAtMost};
 

@@ -1,4 +1,4 @@
-//! The doors of a process that runs a chain: begin at `run_fronts`, last.
+//! The doors of a process that runs a chain: begin at `run_fronts`.
 
 use crate::callers::Claim;
 use crate::doors::{Door, Listener};

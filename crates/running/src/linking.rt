@@ -1,4 +1,4 @@
-//! The threads of links: begin at `accept_links` and `serve_guest`, last, and at `dial_on`.
+//! The threads of links: begin at `accept_links` and `serve_guest`, and at `dial_on`.
 //!
 //! The socket of a session is in `sockets` from `enter_to` or `enter_to_greet` to `leave`, which
 //! shuts it down. `dial_once` and `serve_guest` call that as their last step, however the session

@@ -175,7 +175,7 @@ impl<D: Disk, J: Life> Shared<D, J> {
     }
 }
 
-/// What the log is told. What the member's own end does to links isn't.
+/// The events for the log: none of what the member's own end does to links.
 impl<D: Disk, J: Life> Shared<D, J> {
     /// Logs an event of a link from a peer or to it, but none of the link from the member to
     /// itself.
@@ -206,7 +206,7 @@ impl<D: Disk, J: Life> Shared<D, J> {
     }
 
     /// The same, but where another thread has the book for longer than a tenth of a second, as
-    /// while its disk stalls, nothing: the clock waits for no book.
+    /// while its disk stalls, nothing: the clock waits no longer for that.
     fn try_log_book<R: Machine>(&self, rt: &R) {
         if self.logger.is_off(rt) {
             return;
@@ -241,7 +241,7 @@ impl<D: Disk, J: Life> Shared<D, J> {
     }
 }
 
-/// Who is let in, and who leaves.
+/// The admission of connections, and how they leave.
 impl<D: Disk, J: Life> Shared<D, J> {
     /// Returns what the next connection that is admitted has; none at the end. One that isn't
     /// admitted is closed.

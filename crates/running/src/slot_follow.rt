@@ -1,4 +1,4 @@
-//! A client of a chain that follows decisions: begin at `follow`, last.
+//! A client of a chain that follows decisions: begin at `follow`.
 
 use crate::epoch::InChain;
 use crate::life::Life;

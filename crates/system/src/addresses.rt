@@ -71,7 +71,7 @@ fn with_own(alloc: Global, peers: &[Address], me: u8, own: Address) -> Result<Ve
 }
 
 /// Returns the addresses at which the members are dialled: their entries of the peers; and for the
-/// own one the address of
+/// own one the address of `listen`, if that is given.
 fn dialled(alloc: Global, settings: &Settings) -> Result<Vec<Address>, Memory>
     ensures { IfOk result
         (λ it. it.items ≡ dialled settings.now.peers.items settings.now.listen

@@ -1,5 +1,5 @@
 //! A question that is asked of all members of a cluster, or proposed to them: begin at `ask_all`
-//! and `decide`, last.
+//! and `decide`.
 
 use crate::board::News;
 use crate::callers::{Caller, Calls, Cluster, IN_ALL, Lines, deadline_within};

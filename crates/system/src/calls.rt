@@ -1,4 +1,4 @@
-//! One member's thread of a command over a whole cluster: begin at `call`, last.
+//! One member's thread of a command over a whole cluster: begin at `call`.
 //!
 //! The thread sends its lines, and leaves each reply at the board. Nobody waits for its end: a
 //! member that says nothing, or byte after byte, holds up its own thread alone, which the end of

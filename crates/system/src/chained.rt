@@ -1,4 +1,4 @@
-//! The command `run` of a member of a chain: begin at `run_chain`, last.
+//! The command `run` of a member of a chain: begin at `run_chain`.
 
 ghost use Rattle.member.specs.Sound.{HasItsFile, IsSound};
 ghost use Rattle.member.specs.Readers.{member_saved, member_is_stopped, MemberStandsFor};

@@ -1,4 +1,4 @@
-//! The command `gateway`: a cluster over HTTP. Begin at `run_gateway`, last.
+//! The command `gateway`: a cluster over HTTP. Begin at `run_gateway`.
 
 ghost use Rattle.std.specs.Prelude.{◌≡◌, ◌↔◌, IfErr, IfOk, IfSome, IsTrue};
 ghost use Rattle.system.specs.Gates.{HasToken, IsLineOf, IsToken, IsTokenByte, IsUnopened, Opens, is_open_mode};

@@ -1,4 +1,4 @@
-//! Transcripts of all members of a cluster: begin at `transcript_of_all` and `audit_all`, last.
+//! Transcripts of all members of a cluster: begin at `transcript_of_all` and `audit_all`.
 
 use crate::board::News;
 use crate::callers::{Caller, Calls, Cluster, Lines};

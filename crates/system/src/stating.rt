@@ -1,5 +1,5 @@
 //! A line for all members of a cluster, and the reply of each: begin at `propose_to_all`,
-//! `status_of_all` and `epochs_of_all`, last.
+//! `status_of_all` and `epochs_of_all`.
 
 use crate::board::News;
 use crate::callers::{Caller, Calls, Cluster, Lines};

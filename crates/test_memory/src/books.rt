@@ -87,7 +87,7 @@ fn proposes<D: Disk, J: Naming>(book: &mut Book<D, J>, seat: &mut Seat<J>, of: &
     }
 }
 
-/// Returns what a client proposes is answered.
+/// A client's proposal is answered.
 fn answers<D: Disk, J: Naming>(book: &mut Book<D, J>, seat: &mut Seat<J>, of: &Subject) -> Ending {
     let command = Command::Propose {
         question: 0,

@@ -1,4 +1,4 @@
-//! Two links and an asker that run at once: begin at `links_and_an_asker_run_at_once`, last.
+//! Two links and an asker that run at once: begin at `links_and_an_asker_run_at_once`.
 ghost use Rattle.std.specs.Prelude.{◌≡◌, ◌<◌, length, IfOk, []};
 ghost use Rattle.terms_prelude.specs.Terms.{new_header, new_size};
 ghost use Rattle.member.specs.Memory.{memory_disk};
