@@ -69,7 +69,7 @@ pub fn dump_lines<D: Disk, W: Write>(
     print_records(alloc, Form::Lines, disk, output)
 }
 
-/// Writes how many records the journal that the disk has has: one decimal number in a line. The
+/// Writes how many records the journal of the disk has: one decimal number in a line. The
 /// status is 0. The faults are those of [`dump_lines`], and come when its own do.
 pub fn dump_count<D: Disk, W: Write>(
     alloc: Global,
@@ -220,7 +220,7 @@ pub(crate) fn header_line(alloc: Global, header: &Header) -> Result<String, Allo
     )
 }
 
-/// Writes how many records the journal that the disk has has: one object of JSON in a line. The
+/// Writes how many records the journal of the disk has: one object of JSON in a line. The
 /// status is 0. The faults are those of [`dump_lines`], and come when its own do.
 pub fn dump_count_object<D: Disk, W: Write>(
     alloc: Global,
@@ -243,7 +243,7 @@ pub fn dump_count_object<D: Disk, W: Write>(
     print_count(alloc, Form::Objects, disk, output)
 }
 
-/// Writes how many records the journal that the disk has has.
+/// Writes how many records the journal of the disk has.
 fn print_count<D: Disk, W: Write>(
     alloc: Global,
     form: Form,

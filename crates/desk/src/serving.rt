@@ -311,7 +311,8 @@ impl<D: Disk, J: Naming, R: Wait + Clock> Server<'_, D, J, R> {
     }
 
     /// The reply to a command. The replies that are held are written before it waits for what may
-    /// take seconds: it says `false` where that fails.
+    /// take seconds: it says `false` where that fails. `AWAIT` ends at once then. `PROPOSE` and
+    /// `TRANSCRIPT` still do what was asked, because the client asked for it before it left.
     fn reply_to_command<S: Stream, T: Tosser>(
         &self,
         pass: &mut Pass,

@@ -9,7 +9,8 @@ use thiserror::Error;
 #[error("device")]
 pub struct DeviceFault;
 
-/// One file, reached by calls that may fail.
+/// One file, reached by calls that may fail. The program has a [`FileDisk`](crate::FileDisk) within
+/// a `MarkedDisk` of `system`, simulations have a [`MemDisk`](crate::MemDisk).
 ///
 /// A fault is answered just in a call in which the count of failures rose. That holds of every
 /// disk. What a call says of bytes, moments and crashes holds if the disk kept the model until the

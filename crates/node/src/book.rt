@@ -93,8 +93,8 @@ impl Naming for Brand {
 /// noted is copied when it grows: a block is begun, and where a group found no room in the one
 /// before, up to 255 entries of that one stay unused. Of each sender one Echo and one Ready a place
 /// are taken, one Initial of each of its own places, and of each question one proposal. With 32
-/// members and 256 questions these are 51,118,336 entries at most, or 0.77 GB; where all are honest
-/// and each question is decided in round 1 they are some 3.2 million, or 48 MB.
+/// members and 256 questions these are 51,118,336 entries at most, or 0.77 GB; where all are
+/// correct and each question is decided in round 1 they are some 3.2 million, or 48 MB.
 #[derive(Drop)]
 pub struct Book<D: Disk, J: Naming> {
     alloc: Global,

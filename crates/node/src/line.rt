@@ -21,7 +21,8 @@ use terms::{Memory, Statement};
 /// The most groups in a row for which the bell isn't rung.
 const QUIET: u32 = 7;
 
-/// The most statements that a read of a link gives: it is of 512 bytes, and each takes seven.
+/// The most statements that most reads of a link give: a read is of 512 bytes, and each statement
+/// takes seven of them. A read that ends a frame whose front came before may give up to 171.
 const READ: usize = 73;
 
 /// The outcome of statements that wait for the book: it heard them, and this is its account then;
@@ -75,8 +76,8 @@ impl<D, J: Naming> Line<D, J> {
         })
     }
 
-    /// What this link hands in waits from now on. A link waits for one answer at a time. False
-    /// where there is no such link.
+    /// Puts what this link hands in into its place, where it waits. A link waits for one answer at
+    /// a time. False where there is no such link.
     pub(crate) fn enter(&mut self, link: u8, events: Vec<(u8, Statement, Toss)>) -> bool {
         match self.slots.get_mut(usize::from(link)) {
             Some(slot) => {

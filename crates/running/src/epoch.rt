@@ -110,7 +110,8 @@ impl<D: Disk, J: Life> Shared<D, J> {
         chain.standing.rests.store(rests, Ordering::SeqCst);
     }
 
-    /// Returns `true` if a question was proposed to this member and isn't decided.
+    /// Returns `true` if a question was proposed to this member and isn't decided. It waits for the
+    /// book at each question.
     fn is_undone<R: Machine>(&self, rt: &R) -> bool {
         for question in 0..self.hub.header().size().questions() {
             if let Some(QuestionState::Open { .. } | QuestionState::Spent) = self

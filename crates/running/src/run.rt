@@ -120,10 +120,10 @@ pub struct Start<D: Disk + Drop> {
 /// Runs a member that was just opened, over any disk, until its operator ends it.
 ///
 /// It listens at its own two addresses, tries whether the system gives it its threads, tells the
-/// operator that it is ready, and then starts them: a clock, one that has the book hear what links
-/// hand in, a dialler for each member, one that takes links in and one that takes clients in, one
-/// for each of these, and one that tells all clients that follow decisions. At the end all of them
-/// end, and with them every connection.
+/// operator that it is ready, and then starts them: a clock, a dialler for each member, one that
+/// takes links in and one that takes clients in, one for each of these, and one that tells all
+/// clients that follow decisions. The threads of links, in turn, have the book hear what all of
+/// them hand in. At the end all threads end, and with them every connection.
 ///
 /// **It listens before it speaks**: it makes no record, and answers no proposal, before n - t - 1
 /// other members have welcomed it, or the seconds of its patience have passed. So a member whose

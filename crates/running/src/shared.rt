@@ -206,7 +206,7 @@ impl<D: Disk, J: Life> Shared<D, J> {
     }
 
     /// The same, but where another thread has the book for longer than a tenth of a second, as
-    /// while its disk stalls, nothing: the clock waits for no book.
+    /// while its disk stalls, nothing: the clock waits no longer for that.
     fn try_log_book<R: Machine>(&self, rt: &R) {
         if self.logger.is_off(rt) {
             return;

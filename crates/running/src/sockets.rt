@@ -48,7 +48,7 @@ impl OpenSocket {
     }
 
     /// Shuts the socket down if it is one of a link to that member, dialled two ticks before this
-    /// one or earlier, and returns
+    /// one or earlier, and returns `true` if it is.
     fn shut_if_old_to(&self, peer: u8, now: u64) -> bool {
         let is_its = match self.to {
             Some(to) => to.peer == peer && now.saturating_sub(to.tick) >= FRESH_TICKS,

@@ -10,7 +10,7 @@ pub(crate) const CLOCK_PAUSE: u64 = 100;
 /// a second.
 pub(crate) const BOOK_TRIES: u32 = 20;
 
-/// The milliseconds between two of these tries.
+/// The milliseconds between two of the [`BOOK_TRIES`].
 pub(crate) const BOOK_PAUSE: u64 = 5;
 
 /// The milliseconds after which the thread of the log looks again for what is to be told.
@@ -33,7 +33,7 @@ pub(crate) const GREETING_TICKS: u8 = 10;
 /// The most times that a peer that has greeted asks for its seat: for half a second.
 pub(crate) const SEAT_TRIES: u32 = 25;
 
-/// The milliseconds between two of these tries.
+/// The milliseconds between two of the [`SEAT_TRIES`].
 pub(crate) const SEAT_PAUSE: u64 = 20;
 
 /// The seconds that dialling a peer takes at most.

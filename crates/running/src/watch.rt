@@ -39,7 +39,7 @@ impl Model for Watch {
 }
 
 impl Watch {
-    /// Returns what was decided in earlier lives needs no telling.
+    /// Creates a watch to which no decision of an earlier life needs telling.
     pub(crate) fn new<D: Disk, J: Naming>(alloc: Global, book: &Book<D, J>) -> Result<Watch, Memory>
         ensures { IfOk result
             (λ watch. watch ≡ record {

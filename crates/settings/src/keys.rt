@@ -27,7 +27,7 @@ pub enum Key {
     /// The secret from which the member tosses its coins: a text of 64 hexadecimal digits.
     Seed,
     /// The address at which the member listens to the others if not at its own entry of the peers:
-    /// a text `HOST:PORT`. It
+    /// a text `HOST:PORT`. It may be left out.
     Listen,
     /// The path of a Unix socket at which the member answers clients too, a text that isn't empty.
     /// It may be left out.

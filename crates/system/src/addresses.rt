@@ -69,7 +69,7 @@ pub(crate) fn addresses_of(
 }
 
 /// Returns the addresses at which the members are dialled: their entries of the peers; and for the
-/// own one the address of
+/// own one the address of `listen`, if that is given.
 fn dialled(alloc: Global, settings: &Settings) -> Result<Vec<Address>, Memory>
     ensures { IfOk result
         (λ it. it.items ≡ dialled settings.now.peers.items settings.now.listen

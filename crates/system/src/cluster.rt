@@ -86,7 +86,7 @@ pub fn new_cluster(rt: &HostRuntime, wanted: &NewCluster<'_>) -> Result<u8, Fail
 }
 
 /// Returns the addresses at which the members listen. [`Fault::Hosts`]: there aren't n hosts, or
-/// one isn't any, or there
+/// one isn't any, or there aren't ports enough.
 fn places_of(alloc: Global, wanted: &NewCluster<'_>) -> Result<Places, Failure> {
     let first = wanted.port.unwrap_or(FIRST_PORT);
     let n = wanted.size.n();
@@ -119,7 +119,7 @@ fn bad_port(alloc: Global, first: u16, n: u8) -> Failure {
 }
 
 /// Returns the addresses at which the members listen to one another, from this port on.
-/// [`Fault::Hosts`]: there aren't n
+/// [`Fault::Hosts`]: there aren't n hosts, or one isn't any.
 fn links_of(alloc: Global, wanted: &NewCluster<'_>, first: u16) -> Result<Vec<Address>, Failure> {
     let hosts = hosts_of(alloc, wanted)?;
     if hosts.len() != usize::from(wanted.size.n()) {
@@ -132,7 +132,7 @@ fn links_of(alloc: Global, wanted: &NewCluster<'_>, first: u16) -> Result<Vec<Ad
 }
 
 /// Returns the addresses at which the members listen to their clients, from this port on.
-/// [`Fault::Hosts`]: the host isn't
+/// [`Fault::Hosts`]: the host isn't any.
 fn desks_of(alloc: Global, wanted: &NewCluster<'_>, first: u16) -> Result<Vec<Address>, Failure> {
     let hosts = desk_hosts_of(alloc, wanted)?;
     match addresses_from(alloc, hosts.as_slice(), first).map_err(|_| Fault::Memory)? {

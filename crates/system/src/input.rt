@@ -7,7 +7,7 @@ use std::sync::Arc;
 use std::sync::atomic::{AtomicBool, Ordering};
 use std::thread::{self, Threads};
 
-/// How far a thread has come that reads the standard input to its end.
+/// The progress of a thread that reads the standard input to its end.
 #[derive(Drop)]
 pub struct Input {
     ended: AtomicBool,

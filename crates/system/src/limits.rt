@@ -1,4 +1,4 @@
-//! How many files a member may have open.
+//! The number of files that a member may have open.
 
 ghost use Rattle.std.specs.Prelude.{ℕ, ◌≡◌, ◌+◌, ◌*◌, ◌<◌, ◌≤◌, IfOk, IfSome, IsTrue, ◌↔◌, MatchOption, Some, None, false, string_bytes};
 ghost use Rattle.system.specs.Limits.{HasLimit, IsFirstNumber, clients_within, fewer_text, followers_text, followers_within, lack_text, least_wanted, starved_text, wanted};

@@ -36,7 +36,7 @@ use std::thread;
 use std::time::Duration;
 use terms::Header;
 
-/// What is told of a journal that is gone.
+/// The words on a journal that is gone.
 const GONE: &str = "the file was removed or replaced while the member ran";
 
 /// The standard streams of a member that runs: it prints that it is ready, and ends where the input
@@ -107,7 +107,7 @@ impl<'a> Console<'a> {
         true
     }
 
-    /// Returns where the standard input has come to its end.
+    /// Reads the standard input to its end.
     fn drain(&self) -> Result<(), RunFault> {
         let mut input = self.host.reader();
         let mut piece = [0; 512];

@@ -123,7 +123,7 @@ fn applies_all<D: Disk, J: Naming>(
     }
 }
 
-/// Returns what a client proposes is answered.
+/// A client's proposal is answered.
 fn answers<D: Disk, J: Naming>(book: &mut Book<D, J>, seat: &mut Seat<J>, of: &Subject) -> Ending {
     let command = Command::Propose {
         question: 0,

@@ -32,7 +32,7 @@ fn group_count(said: usize, place: usize, count: u16) -> usize
 }
 
 /// Returns the place of the link from a sender to the event's member after the event. A group's
-/// sender had said so many
+/// sender had said so many statements.
 fn place_after(said: usize, event: &Event, mark: Mark, sender: usize, place: usize) -> usize
     ensures { place + 1 < 2 ^ 64 → result ≡ place_after said event.now mark sender place }
 {
