@@ -143,7 +143,7 @@ impl<D: Disk, J: Naming, R: Wait> Writer<'_, D, J, R> {
         ensures fits { IfOk result (λ v. 0 < vec_len v → from + vec_len v < 2 ^ 64) }
         ensures only { IfErr result IsEndOrMemory }
     {
-        match self.hub.next(self.rt, from, most(self.version)) {
+        match self.hub.await_items(self.rt, from, most(self.version)) {
             Ok(Some(items)) => Ok(items),
             Ok(None) => Err(LinkEnd::Ended),
             Err(_) => Err(LinkEnd::Memory),

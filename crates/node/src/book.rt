@@ -33,7 +33,7 @@ use crate::account::{Account, Witness};
 use crate::board::{Board, Pass};
 use crate::ended::Ended;
 use crate::entry::Entry;
-use crate::group::{add_all_taken, prepare};
+use crate::group::{add_all_taken, group_with_room};
 use crate::history::History;
 use crate::marks::{Firsts, keep_all};
 use crate::order::Decision;
@@ -296,7 +296,7 @@ impl<D: Disk, J: Naming> Book<D, J> {
         if self.member.is_stopped() {
             return Err(MemberFault::Stopped);
         }
-        let Some(group) = prepare(self.alloc, seat.peer, events, &mut seat.firsts) else {
+        let Some(group) = group_with_room(self.alloc, seat.peer, events, &mut seat.firsts) else {
             self.member.stop();
             return Err(MemberFault::Memory);
         };

@@ -201,7 +201,7 @@ pub(crate) fn accept_clients<D: Disk + Send, J: Life + Send + Sync, R: Machine>(
     thread::scope(thread::scope_env(), rt, |scope| {
         for _ in 0..u64::MAX {
             let admit = |arrival| shared.admit_client(rt, arrival);
-            let Some(chair) = shared.next(rt, listener, admit) else {
+            let Some(chair) = shared.next_admitted(rt, listener, admit) else {
                 break;
             };
             if scope

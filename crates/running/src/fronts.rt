@@ -292,7 +292,7 @@ impl FrontDoors {
 /// Takes clients in until the end, and hands each to the newest epoch.
 fn accept_clients<R: Machine>(rt: &R, board: &Switchboard, listener: &Listener) {
     for _ in 0..u64::MAX {
-        let Some(arrival) = next(rt, board, listener) else {
+        let Some(arrival) = next_arrival(rt, board, listener) else {
             return;
         };
         board.hand_client(rt, None, arrival);
@@ -300,7 +300,7 @@ fn accept_clients<R: Machine>(rt: &R, board: &Switchboard, listener: &Listener) 
 }
 
 /// Returns the next connection; none at the end.
-fn next<R: Machine>(rt: &R, board: &Switchboard, listener: &Listener) -> Option<Arrival> {
+fn next_arrival<R: Machine>(rt: &R, board: &Switchboard, listener: &Listener) -> Option<Arrival> {
     for _ in rt.forever() {
         if board.is_ended() {
             return None;

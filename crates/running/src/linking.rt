@@ -314,7 +314,7 @@ pub(crate) fn accept_links<D: Disk + Send, J: Life + Send + Sync, R: Machine>(
     thread::scope(thread::scope_env(), rt, |scope| {
         for _ in 0..u64::MAX {
             let admit = |arrival| shared.admit_peer(rt, arrival);
-            let Some(guest) = shared.next(rt, listener, admit) else {
+            let Some(guest) = shared.next_admitted(rt, listener, admit) else {
                 break;
             };
             if scope.spawn(move || shared.serve_guest(rt, guest)).is_err() {

@@ -245,7 +245,7 @@ impl<D: Disk, J: Life> Shared<D, J> {
 impl<D: Disk, J: Life> Shared<D, J> {
     /// Returns what the next connection that is admitted has; none at the end. One that isn't
     /// admitted is closed.
-    pub(crate) fn next<R: Machine, A, F: Fn(Arrival) -> Option<A>>(
+    pub(crate) fn next_admitted<R: Machine, A, F: Fn(Arrival) -> Option<A>>(
         &self,
         rt: &R,
         listener: &Listener,

@@ -130,7 +130,7 @@ fn lend<J: Naming, R: Wait + Clock>(rt: &R, hub: &Hub<MemDisk, J>, seen: &Seen) 
 /// Waits for the bell, as a writer. Whether it rang for something.
 fn hear_the_bell<J: Naming, R: Wait>(rt: &R, hub: &Hub<MemDisk, J>, seen: &Seen) -> bool {
     seen.begun.store(1, Ordering::SeqCst);
-    let is_rung = matches!(hub.next(rt, 0, 64), Ok(Some(told)) if !told.is_empty());
+    let is_rung = matches!(hub.await_items(rt, 0, 64), Ok(Some(told)) if !told.is_empty());
     seen.rung.store(u16::from(is_rung), Ordering::SeqCst);
     is_rung
 }
