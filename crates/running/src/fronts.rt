@@ -82,7 +82,7 @@ fn accept_links<R: Machine>(
     let (greeters, share) = (&greeters, share_of(hosts));
     thread::scope(thread::scope_env(), rt, |scope| {
         for _ in 0..u64::MAX {
-            let Some(Arrival { socket, host, .. }) = next(rt, board, listener) else {
+            let Some(Arrival { socket, host, .. }) = next_arrival(rt, board, listener) else {
                 break;
             };
             if !is_let_in(hosts, host) {
