@@ -5,7 +5,7 @@ use crate::machine::Machine;
 use crate::shared::Shared;
 use disk::Disk;
 use epochs::{Doors, Report, Switchboard};
-use node::QuestionState;
+use node::{Book, QuestionState};
 use std::sync::atomic::{AtomicBool, AtomicU64, Ordering};
 use std::sync::{Arc, Wait};
 
@@ -110,18 +110,13 @@ impl<D: Disk, J: Life> Shared<D, J> {
         chain.standing.rests.store(rests, Ordering::SeqCst);
     }
 
-    /// Returns `true` if a question was proposed to this member and isn't decided. It waits for the
-    /// book at each question.
+    /// Returns `true` if a question was proposed to this member and isn't decided. Where nobody can
+    /// look, since another thread has the book for a while, it may be so.
     fn is_undone<R: Machine>(&self, rt: &R) -> bool {
-        for question in 0..self.hub.header().size().questions() {
-            if let Some(QuestionState::Open { .. } | QuestionState::Spent) = self
-                .hub
-                .state(rt, question)
-            {
-                return true;
-            }
+        match self.try_book(rt) {
+            Some(book) => has_open(&book),
+            None => true,
         }
-        false
     }
 
     /// A link of that member is read from now on, or isn't any more.
@@ -139,4 +134,14 @@ impl<D: Disk, J: Life> Shared<D, J> {
             None => true,
         }
     }
+}
+
+/// Returns `true` if a question was proposed to the member of a book and isn't decided.
+fn has_open<D: Disk, J: Life>(book: &Book<D, J>) -> bool {
+    for question in 0..book.header().size().questions() {
+        if let Some(QuestionState::Open { .. } | QuestionState::Spent) = book.state(question) {
+            return true;
+        }
+    }
+    false
 }

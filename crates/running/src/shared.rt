@@ -26,7 +26,7 @@ use epochs::Arrival;
 use links::LinkEnd;
 use node::{Book, Hub};
 use std::alloc::Global;
-use std::sync::{Condvar, Mutex, Wait};
+use std::sync::{Condvar, Mutex, MutexGuard, Wait};
 use std::thread;
 use std::time::Duration;
 
@@ -205,30 +205,27 @@ impl<D: Disk, J: Life> Shared<D, J> {
         self.look(rt, &book);
     }
 
-    /// The same, but where another thread has the book for longer than a tenth of a second, as
-    /// while its disk stalls, nothing: the clock waits no longer for that.
+    /// The same, but nothing where [`Shared::try_book`] gets no book.
     fn try_log_book<R: Machine>(&self, rt: &R) {
         if self.logger.is_off(rt) {
             return;
         }
-        for _ in 0..BOOK_TRIES {
-            if self.try_look(rt) {
-                return;
-            }
-            thread::sleep(rt, Duration::from_millis(BOOK_PAUSE));
+        if let Some(book) = self.try_book(rt) {
+            self.look(rt, &book);
         }
     }
 
-    /// Logs what the book has that wasn't told, if no other thread has the book; false where one
-    /// has.
-    fn try_look<R: Machine>(&self, rt: &R) -> bool {
-        match self.hub.try_lock() {
-            Some(book) => {
-                self.look(rt, &book);
-                true
+    /// Returns the book; none if another thread has it for longer than a tenth of a second, as
+    /// while its disk stalls: the clock waits no longer for that.
+    pub(crate) fn try_book<R: Machine>(&self, rt: &R) -> Option<MutexGuard<'_, Book<D, J>>> {
+        for _ in 0..BOOK_TRIES {
+            let book = self.hub.try_lock();
+            if book.is_some() {
+                return book;
             }
-            None => false,
+            thread::sleep(rt, Duration::from_millis(BOOK_PAUSE));
         }
+        None
     }
 
     /// Logs what a book has that wasn't told. That a member that has not spoken was stopped by its
