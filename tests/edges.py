@@ -269,10 +269,11 @@ def a_new_journal_outlives_its_count(folder, port):
         file.write(old[:-2])
     with open(f"{folder}/there", "wb"):
         pass
-    for new in ("there", "not-there"):
+    os.symlink("far", f"{folder}/link")
+    for new in ("there", "not-there", "link"):
         found += differs(f"a damaged journal into {new}", say(["--quiet", "migrate", "damaged", new], folder), ("bracha: migrate CutShort\n", 1))
-    left = [os.path.exists(f"{folder}/{new}") for new in ("there", "not-there")]
-    return found + differs("the file that was there, and the one that wasn't, are left", left, [True, False])
+    left = [os.path.lexists(f"{folder}/{new}") for new in ("there", "not-there", "link", "far")]
+    return found + differs("what was there, what wasn't, a link, and what it leads to, are left", left, [True, False, True, False])
 
 
 @check

@@ -560,10 +560,18 @@ fn read_unlocked(rt: &HostRuntime, path: &str, most: u64) -> io::Result<Vec<u8>>
 /// The failure of a journal that wasn't brought over, once the file at `new` is gone, if it was
 /// made for it. Where it can't be removed that is told in place of the cause.
 fn unmade(rt: &HostRuntime, new: &str, made: bool, failure: Failure) -> Failure {
-    if !made || fs::remove_file(rt, new).is_ok() {
+    if !made || is_removed(rt, new) {
         return failure;
     }
     Failure::at(rt.alloc(), failure.fault, new, Whereabouts::Whole, &LEFT)
+}
+
+/// Removes the file at a path; where that is a link the file that it leads to, and the link stays.
+fn is_removed(rt: &HostRuntime, path: &str) -> bool {
+    match fs::canonicalize(rt, path) {
+        Ok(file) => fs::remove_file(rt, file.as_str()).is_ok(),
+        Err(_) => false,
+    }
 }
 
 /// Runs the script in the file, or the one on the standard input where its path is `-`, and writes
