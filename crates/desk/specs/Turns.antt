@@ -3,7 +3,9 @@ use Rattle.std.specs.Prelude.{ℕ, ◌≡◌, ◌⊎◌, ◌≤◌, List, [], �
 use Rattle.numerals.specs.Lines.{line}
 use Rattle.links.specs.Told.{Told, has_written, BreaksOff}
 use Rattle.desk.specs.Replies.{reply_text}
-use Rattle.desk.specs.Sessions.{Exchange, IsLine, InTurn, AllGoOn, LosesReplies, Serves, exchanged}
+use Rattle.node.specs.Verdicts.{PassView}
+use Rattle.desk.specs.Sessions.{Exchange, IsLine, InTurn, AllGoOn, LosesReplies, Serves, Sitting, exchanged, sitting}
+use Rattle.desk.specs.declared.held.Sheet.{Sheet}
 use Rattle.desk.specs.declared.reply.Reply.{Reply}
 use Rattle.desk.specs.declared.reply.Reply.TheVariants.{BadLine}
 use Rattle.desk.specs.declared.serving.DeskEnd.{DeskEnd}
@@ -50,3 +52,32 @@ pub record Serving {S : Type 0} (Replies : S → List ℕ → Reply → S → Ty
   pub all_go_on : AllGoOn exchanges
   pub is_line : IsLine held
   pub told : now ≡ exchanged old exchanges (held ++ more)
+
+-- How far a session has come: what it knows, what its stream tells once the replies that are held are written, and the line
+-- that is held.
+pub record Course (S : Type 0) : Type 0 where
+  pub knows : S
+  pub told : Told
+  pub line : List ℕ
+
+abbrev pub course : {T : Type 0} → PassView → T → Told → Sheet → Course (Sitting T)
+course pass tosser told sheet = record {
+  knows = sitting pass tosser;
+  told = has_written told sheet.replies.items;
+  line = sheet.line;
+}
+
+-- However the session began: if it has served its client up to one point, with these bytes behind the line that is held, then
+-- also up to another, with these left of them.
+abbrev pub GetsOn : {S : Type 0} → (S → List ℕ → Reply → S → Type 0) → Course S → List ℕ → Course S → List ℕ → Type 0
+GetsOn {S} Replies before bytes after left =
+    (begun : S) (old : Told)
+    → Serving Replies begun before.knows old before.told before.line bytes
+    → Serving Replies begun after.knows old after.told after.line left
+
+-- then it comes to its end, with these replies held
+abbrev pub ComesToEnd : {S : Type 0} → (S → List ℕ → Reply → S → Type 0) → Course S → List ℕ → S → Told → List ℕ → DeskEnd → Type 0
+ComesToEnd {S} Replies before bytes after now held why =
+    (begun : S) (old : Told)
+    → Serving Replies begun before.knows old before.told before.line bytes
+    → Leaves Replies begun after old now held why

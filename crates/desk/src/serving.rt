@@ -6,7 +6,7 @@ ghost use Rattle.node.specs.Verdicts.{KnowsMore, SeesOn, known_at};
 ghost use Rattle.links.specs.Told.{Told, has_ended, has_written};
 ghost use Rattle.desk.specs.Answers.{verdict_reply};
 ghost use Rattle.desk.specs.Sessions.{Sitting, sitting, AnswersCommand, AnswersLine, IsAwaitReply, IsLinksReply, IsProposalReply, IsStateTold, IsStatusReply, IsTranscriptTold, ServesTogether};
-ghost use Rattle.desk.specs.Turns.{FailsToSay, IsLeft, Leaves, Loses, Refuses, Says, Serving};
+ghost use Rattle.desk.specs.Turns.{ComesToEnd, FailsToSay, GetsOn, IsLeft, Loses, Refuses, Says, course};
 
 use crate::answering::{
     dossier_for, propose_for, reply_of, standing_links, standing_reply, state_reply, verdict_reply,
@@ -125,19 +125,13 @@ impl<D: Disk, J: Naming, R: Wait + Clock> Server<'_, D, J, R> {
     ) -> Result<(), DeskEnd>
         requires { pass.old.board ≡ J.names }
         ensures board { pass.new.board ≡ J.names }
-        ensures on { (begun : Sitting T) (old : Told) →
-            Serving (AnswersLine D T.may_toss self.now.hub.now J.opening) begun
-            (sitting pass.old tosser.old) old
-            (has_written (S.told stream.old) sheet.old.replies.items) sheet.old.line [] →
-            OnOk result (Serving (AnswersLine D T.may_toss self.now.hub.now J.opening) begun
-            (sitting pass.new tosser.new) old
-            (has_written (S.told stream.new) sheet.new.replies.items) sheet.new.line []) }
-        ensures off { (begun : Sitting T) (old : Told) →
-            Serving (AnswersLine D T.may_toss self.now.hub.now J.opening) begun
-            (sitting pass.old tosser.old) old
-            (has_written (S.told stream.old) sheet.old.replies.items) sheet.old.line [] →
-            IfErr result (Leaves (AnswersLine D T.may_toss self.now.hub.now J.opening) begun
-            (sitting pass.new tosser.new) old (S.told stream.new) sheet.new.replies.items) }
+        ensures on { OnOk result (GetsOn (AnswersLine D T.may_toss self.now.hub.now J.opening)
+            (course pass.old tosser.old (S.told stream.old) sheet.old) []
+            (course pass.new tosser.new (S.told stream.new) sheet.new) []) }
+        ensures off { IfErr result (λ why.
+            ComesToEnd (AnswersLine D T.may_toss self.now.hub.now J.opening)
+            (course pass.old tosser.old (S.told stream.old) sheet.old) []
+            (sitting pass.new tosser.new) (S.told stream.new) sheet.new.replies.items why) }
     {
         let mut piece = [0u8; PIECE];
         if let Err(end) = write_held(stream, &mut sheet.replies) {
@@ -160,13 +154,11 @@ impl<D: Disk, J: Naming, R: Wait + Clock> Server<'_, D, J, R> {
     ) -> DeskEnd
         requires { pass.old.board ≡ J.names }
         ensures board { pass.new.board ≡ J.names }
-        ensures off { (begun : Sitting T) (old : Told) (before : Told) →
+        ensures off { (before : Told) →
             has_written (S.told stream.old) sheet.old.replies.items ≡ has_ended before →
-            Serving (AnswersLine D T.may_toss self.now.hub.now J.opening) begun
-            (sitting pass.old tosser.old) old before sheet.old.line [] →
-            Leaves (AnswersLine D T.may_toss self.now.hub.now J.opening) begun
-            (sitting pass.new tosser.new) old
-            (S.told stream.new) sheet.new.replies.items result }
+            ComesToEnd (AnswersLine D T.may_toss self.now.hub.now J.opening)
+            (record { knows = sitting pass.old tosser.old; told = before; line = sheet.old.line })
+            [] (sitting pass.new tosser.new) (S.told stream.new) sheet.new.replies.items result }
     {
         if sheet.line.line().is_empty() {
             return DeskEnd::Ended;
@@ -188,19 +180,13 @@ impl<D: Disk, J: Naming, R: Wait + Clock> Server<'_, D, J, R> {
     ) -> Result<(), DeskEnd>
         requires { pass.old.board ≡ J.names }
         ensures board { pass.new.board ≡ J.names }
-        ensures on { (begun : Sitting T) (old : Told) →
-            Serving (AnswersLine D T.may_toss self.now.hub.now J.opening) begun
-            (sitting pass.old tosser.old) old
-            (has_written (S.told stream.old) sheet.old.replies.items) sheet.old.line piece.now →
-            OnOk result (Serving (AnswersLine D T.may_toss self.now.hub.now J.opening) begun
-            (sitting pass.new tosser.new) old
-            (has_written (S.told stream.new) sheet.new.replies.items) sheet.new.line []) }
-        ensures off { (begun : Sitting T) (old : Told) →
-            Serving (AnswersLine D T.may_toss self.now.hub.now J.opening) begun
-            (sitting pass.old tosser.old) old
-            (has_written (S.told stream.old) sheet.old.replies.items) sheet.old.line piece.now →
-            IfErr result (Leaves (AnswersLine D T.may_toss self.now.hub.now J.opening) begun
-            (sitting pass.new tosser.new) old (S.told stream.new) sheet.new.replies.items) }
+        ensures on { OnOk result (GetsOn (AnswersLine D T.may_toss self.now.hub.now J.opening)
+            (course pass.old tosser.old (S.told stream.old) sheet.old) piece.now
+            (course pass.new tosser.new (S.told stream.new) sheet.new) []) }
+        ensures off { IfErr result (λ why.
+            ComesToEnd (AnswersLine D T.may_toss self.now.hub.now J.opening)
+            (course pass.old tosser.old (S.told stream.old) sheet.old) piece.now
+            (sitting pass.new tosser.new) (S.told stream.new) sheet.new.replies.items why) }
     {
         for byte in piece {
             if let Err(end) = self.serve_byte(pass, tosser, sheet, stream, *byte) {
@@ -221,19 +207,14 @@ impl<D: Disk, J: Naming, R: Wait + Clock> Server<'_, D, J, R> {
     ) -> Result<(), DeskEnd>
         requires { pass.old.board ≡ J.names }
         ensures board { pass.new.board ≡ J.names }
-        ensures on { (begun : Sitting T) (old : Told) (more : List ℕ) →
-            Serving (AnswersLine D T.may_toss self.now.hub.now J.opening) begun
-            (sitting pass.old tosser.old) old
-            (has_written (S.told stream.old) sheet.old.replies.items) sheet.old.line (byte ∷ more) →
-            OnOk result (Serving (AnswersLine D T.may_toss self.now.hub.now J.opening) begun
-            (sitting pass.new tosser.new) old
-            (has_written (S.told stream.new) sheet.new.replies.items) sheet.new.line more) }
-        ensures off { (begun : Sitting T) (old : Told) (more : List ℕ) →
-            Serving (AnswersLine D T.may_toss self.now.hub.now J.opening) begun
-            (sitting pass.old tosser.old) old
-            (has_written (S.told stream.old) sheet.old.replies.items) sheet.old.line (byte ∷ more) →
-            IfErr result (Leaves (AnswersLine D T.may_toss self.now.hub.now J.opening) begun
-            (sitting pass.new tosser.new) old (S.told stream.new) sheet.new.replies.items) }
+        ensures on { OnOk result ((more : List ℕ) →
+            GetsOn (AnswersLine D T.may_toss self.now.hub.now J.opening)
+            (course pass.old tosser.old (S.told stream.old) sheet.old) (byte ∷ more)
+            (course pass.new tosser.new (S.told stream.new) sheet.new) more) }
+        ensures off { IfErr result (λ why. (more : List ℕ) →
+            ComesToEnd (AnswersLine D T.may_toss self.now.hub.now J.opening)
+            (course pass.old tosser.old (S.told stream.old) sheet.old) (byte ∷ more)
+            (sitting pass.new tosser.new) (S.told stream.new) sheet.new.replies.items why) }
     {
         match sheet.line.read(byte) {
             LineStep::More => Ok(()),

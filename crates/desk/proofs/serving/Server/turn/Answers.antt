@@ -15,11 +15,11 @@ returns-in-Err-clause-off g c = λ begun old s. inr (
 )
 
 pub returns-in-Ok-eq0-clause-off : goal.returns-in-Ok-eq0-clause-off
-returns-in-Ok-eq0-clause-off g c = λ begun old s.
+returns-in-Ok-eq0-clause-off g c =
     let told : g.S.Stream.told c.read.new.self ≡ has_ended (g.S.Stream.told c.write_held.new.stream) = search (rules, c.in-Ok-eq0.ensures.end, c.in-Ok-eq0.field-0-test) in
-    c.finish.ensures.off begun old (has_written (g.S.Stream.told c.args.stream.now) c.args.sheet.now.replies.items)
+    c.finish.ensures.off (has_written (g.S.Stream.told c.args.stream.now) c.args.sheet.now.replies.items)
     (behind_held (has_written (g.S.Stream.told c.args.stream.now) c.args.sheet.now.replies.items) (g.S.Stream.told c.write_held.new.stream) (g.S.Stream.told c.read.new.self) c.write_held.new.held.items
-    (λ (t : Told). has_ended t) c.in_default.ensures.none c.in_default.ensures.ok told) s
+    (λ (t : Told). has_ended t) c.in_default.ensures.none c.in_default.ensures.ok told)
 
 pub returns-in-Err-read-clause-off : goal.returns-in-Err-read-clause-off
 returns-in-Err-read-clause-off g c = λ begun old s. inr (
