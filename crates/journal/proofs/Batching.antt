@@ -1,16 +1,12 @@
 -- Batches in front of bytes, one after another, and what goes wrong behind them.
 use Rattle.std.proofs.Common.{◌≡◌, ℕ, ◌-◌, List, [], ◌∷◌, ◌++◌, ◌<◌, ◌+◌, length, drop, refl, sym, ◌∙◌, ap, arith, append_assoc, length-append, length-drop, drop-drop, drop_at, take-append-drop}
 use Rattle.std.proofs.lemmas.List.Concat.{flat_map-append}
-use Rattle.std.specs.List.{AllByRecursion}
 use Rattle.terms_prelude.specs.Terms.{Record, Header, IsSize}
 use Rattle.journal.specs.Words.{JournalFault, NotEmpty, BadHeader, OtherHeader, BadRecord, CutShort, Device, Memory, Stopped, Full, OldVersion, Spelling, version_2, Batch, batch_in, batches_in, batches_bytes, batch_records, IsBatch, AreBatches, IsBadIn, IsCutIn, StumblesIn, ReadsIn, BreaksBatches, BreaksIn, TakesBatches, TakesIn, header_text, HasHeader, Holds}
 use Rattle.journal.proofs.Endings.{Ending, Closed, Cut, Bad, EndsIn, one_end, one_text, rest_of_batches}
 use Rattle.journal.proofs.Opened.{front_of}
 use Rattle.journal.proofs.Six.{six}
-
-all-append : {X : Type 0} (P : X → Type 0) (xs ys : List X) → AllByRecursion P xs → AllByRecursion P ys → AllByRecursion P (xs ++ ys)
-all-append P [] ys all more = more
-all-append P (x ∷ xs) ys all more = (all.0, all-append P xs ys all.1 more)
+use Rattle.journal.proofs.Texts.{all-append}
 
 module _ (spelling : Spelling) where
   -- no batch at all

@@ -55,7 +55,7 @@ held_from file behind header gate records has is reads = record {
 }
 
 -- what went wrong behind the header goes wrong in the file
-wrong_from : (file behind : List ℕ) (header : Header) (IsWrong : List ℕ → Type 0) → HasHeader header file → behind ≡ drop 24 file → StumblesIn version_2 header IsWrong behind → GoesWrong header IsWrong file
+pub wrong_from : (file behind : List ℕ) (header : Header) (IsWrong : List ℕ → Type 0) → HasHeader header file → behind ≡ drop 24 file → StumblesIn version_2 header IsWrong behind → GoesWrong header IsWrong file
 wrong_from file behind header IsWrong has is stumbles = record {
   lawful = has.lawful;
   batches = stumbles.batches;

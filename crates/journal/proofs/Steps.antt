@@ -110,6 +110,10 @@ module _ (spelling : Spelling) (fixed : HasWidth spelling) where
     pub enough : size < length (behind_of bytes)
     pub is : body ≡ take size (behind_of bytes)
 
+  pub is_body : (bytes body : List ℕ) (w : ℕ) → w ≡ spelling.width → 1 ≤ length bytes → get_or bytes 0 0 ≢ 0 → 2 ≤ length (past 1 bytes) → w * count_of bytes < length (behind_of bytes) → body ≡ take (w * count_of bytes) (behind_of bytes) → IsBody bytes body (w * count_of bytes)
+  is_body bytes body w width gate opened count enough is =
+      record { gate = gate; opened = opened; count = count; size_is = ap (λ (n : ℕ). n * count_of bytes) width; enough = enough; is = is }
+
   -- one of them is none
   bad_record : (header : Header) (bytes body : List ℕ) (size : ℕ) → IsBody bytes body size → HasOddIn spelling header (count_of bytes) body → IsBadIn spelling header bytes
   bad_record header bytes body size it has =

@@ -43,9 +43,13 @@ pub records-push : (bs : List Batch) (b : Batch) → batch_records (bs ++ b ∷ 
 records-push bs b =
     flat_map-append (λ (batch : Batch). batch.records) bs (b ∷ []) ∙ ap (λ (l : List Record). batch_records bs ++ l) (append-nil b.records)
 
+-- what holds of two lists holds of both
+pub all-append : {X : Type 0} (P : X → Type 0) (xs ys : List X) → AllByRecursion P xs → AllByRecursion P ys → AllByRecursion P (xs ++ ys)
+all-append P [] ys all more = more
+all-append P (x ∷ xs) ys all more = (all.0, all-append P xs ys all.1 more)
+
 pub all-push : {X : Type 0} (P : X → Type 0) (xs : List X) (x : X) → AllByRecursion P xs → P x → AllByRecursion P (xs ++ x ∷ [])
-all-push P [] x all is = (is, tt)
-all-push P (y ∷ xs) x all is = (all.0, all-push P xs x all.1 is)
+all-push P xs x all is = all-append P xs (x ∷ []) all (is, tt)
 
 pub good-push : (h : Header) (bs : List Batch) (b : Batch) → AreBatches h bs → IsBatch h b → AreBatches h (bs ++ b ∷ [])
 good-push h bs b good is = all-push (IsBatch h) bs b good is

@@ -1,4 +1,4 @@
-//! How a version of the journal lays out its records.
+//! The layout of records, version by version.
 ghost use Rattle.std.specs.Prelude.{◌≡◌, ◌≢◌, length, IfSome, IsNone};
 ghost use Rattle.terms_prelude.specs.Terms.{Record};
 ghost use Rattle.journal.specs.Texts.{Spelling, HasWidth, version_2};
@@ -7,18 +7,18 @@ ghost use Rattle.journal.specs.WellFormed.{IsWellFormedFor};
 use crate::record::{RECORD, record_of};
 use terms::{Header, Record};
 
-/// How a version of the journal lays out its records, each in as many bytes. Headers differ from
-/// version to version too; gates and counts don't.
+/// The layout of a version's records, each of as many bytes. Headers differ from version to version
+/// too, gates and counts don't.
 pub trait Layout {
-    /// How many bytes a record takes, and which.
+    /// The count of a record's bytes, and the bytes.
     ghost spelling: { Spelling };
 
-    /// How many bytes a record takes, 1 to 255.
+    /// Returns how many bytes a record takes, 1 to 255.
     fn width() -> usize
         ensures width { result ≡ spelling.width }
         ensures each { HasWidth spelling };
 
-    /// The record of these bytes, if they are one that is well formed for the header.
+    /// Returns the record of these bytes, if they are one that is well formed for the header.
     fn record_of(header: &Header, bytes: &[u8]) -> Option<Record>
         requires { length bytes.now ≡ spelling.width }
         ensures some { IfSome result
