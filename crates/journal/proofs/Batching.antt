@@ -1,67 +1,64 @@
 -- Batches in front of bytes, one after another, and what goes wrong behind them.
 use Rattle.std.proofs.Common.{◌≡◌, ℕ, ◌-◌, List, [], ◌∷◌, ◌++◌, ◌<◌, ◌+◌, length, drop, refl, sym, ◌∙◌, ap, arith, append_assoc, length-append, length-drop, drop-drop, drop_at, take-append-drop}
 use Rattle.std.proofs.lemmas.List.Concat.{flat_map-append}
-use Rattle.std.specs.List.{AllByRecursion}
 use Rattle.terms_prelude.specs.Terms.{Record, Header, IsSize}
-use Rattle.journal.specs.Words.{JournalFault, NotEmpty, BadHeader, OtherHeader, BadRecord, CutShort, Device, Memory, Stopped, Full, OldVersion, version_2, Batch, batch_in, batches_bytes, batch_records, IsBatch, AreBatches, IsBad, IsCut, Stumbles, ReadsBatches, BreaksBatches, TakesBatches, header_text, HasHeader, Holds}
+use Rattle.journal.specs.Words.{JournalFault, NotEmpty, BadHeader, OtherHeader, BadRecord, CutShort, Device, Memory, Stopped, Full, OldVersion, Spelling, version_2, Batch, batch_in, batches_in, batches_bytes, batch_records, IsBatch, AreBatches, IsBadIn, IsCutIn, StumblesIn, ReadsIn, BreaksBatches, BreaksIn, TakesBatches, TakesIn, header_text, HasHeader, Holds}
 use Rattle.journal.proofs.Endings.{Ending, Closed, Cut, Bad, EndsIn, one_end, one_text, rest_of_batches}
 use Rattle.journal.proofs.Opened.{front_of}
 use Rattle.journal.proofs.Six.{six}
+use Rattle.journal.proofs.Texts.{all-append}
 
-all-append : {X : Type 0} (P : X → Type 0) (xs ys : List X) → AllByRecursion P xs → AllByRecursion P ys → AllByRecursion P (xs ++ ys)
-all-append P [] ys all more = more
-all-append P (x ∷ xs) ys all more = (all.0, all-append P xs ys all.1 more)
+module _ (spelling : Spelling) where
+  -- no batch at all
+  pub takes_nothing : (h : Header) (bytes : List ℕ) → TakesIn spelling h bytes [] bytes
+  takes_nothing h bytes = record { batches = []; good = tt; is = refl; records_are = refl }
 
--- no batch at all
-pub takes_nothing : (h : Header) (bytes : List ℕ) → TakesBatches h bytes [] bytes
-takes_nothing h bytes = record { batches = []; good = tt; is = refl; records_are = refl }
+  -- batches, and then others
+  bytes_of_both : (bs cs : List Batch) (bytes rest behind : List ℕ) → bytes ≡ batches_in spelling bs ++ rest → rest ≡ batches_in spelling cs ++ behind → bytes ≡ batches_in spelling (bs ++ cs) ++ behind
+  bytes_of_both bs cs bytes rest behind is is' =
+      is ∙ ap (λ (l : List ℕ). batches_in spelling bs ++ l) is' ∙ sym (append_assoc (batches_in spelling bs) (batches_in spelling cs) behind)
+      ∙ ap (λ (l : List ℕ). l ++ behind) (sym (flat_map-append (batch_in spelling) bs cs))
 
--- batches, and then others
-bytes_of_both : (bs cs : List Batch) (bytes rest behind : List ℕ) → bytes ≡ batches_bytes bs ++ rest → rest ≡ batches_bytes cs ++ behind → bytes ≡ batches_bytes (bs ++ cs) ++ behind
-bytes_of_both bs cs bytes rest behind is is' =
-    is ∙ ap (λ (l : List ℕ). batches_bytes bs ++ l) is' ∙ sym (append_assoc (batches_bytes bs) (batches_bytes cs) behind)
-    ∙ ap (λ (l : List ℕ). l ++ behind) (sym (flat_map-append (batch_in version_2) bs cs))
+  pub takes_more : (h : Header) (bytes rest behind : List ℕ) (records added : List Record) → TakesIn spelling h bytes records rest → TakesIn spelling h rest added behind → TakesIn spelling h bytes (records ++ added) behind
+  takes_more h bytes rest behind records added a b = record {
+    batches = a.batches ++ b.batches;
+    good = all-append (IsBatch h) a.batches b.batches a.good b.good;
+    is = bytes_of_both a.batches b.batches bytes rest behind a.is b.is;
+    records_are = (λ i. a.records_are i ++ b.records_are i) ∙ sym (flat_map-append (λ (batch : Batch). batch.records) a.batches b.batches);
+  }
 
-pub takes_more : (h : Header) (bytes rest behind : List ℕ) (records added : List Record) → TakesBatches h bytes records rest → TakesBatches h rest added behind → TakesBatches h bytes (records ++ added) behind
-takes_more h bytes rest behind records added a b = record {
-  batches = a.batches ++ b.batches;
-  good = all-append (IsBatch h) a.batches b.batches a.good b.good;
-  is = bytes_of_both a.batches b.batches bytes rest behind a.is b.is;
-  records_are = (λ i. a.records_are i ++ b.records_are i) ∙ sym (flat_map-append (λ (batch : Batch). batch.records) a.batches b.batches);
-}
+  -- batches up to a closed gate
+  pub takes_all : (h : Header) (bytes rest behind : List ℕ) (records : List Record) → TakesIn spelling h bytes records rest → rest ≡ 0 ∷ behind → ReadsIn spelling h bytes (length bytes - length rest) records
+  takes_all h bytes rest behind records t shut = record {
+    batches = t.batches;
+    rest = behind;
+    good = t.good;
+    is = t.is ∙ ap (λ (l : List ℕ). batches_in spelling t.batches ++ l) shut;
+    gate_is = omega (arith, ap (λ (l : List ℕ). length l) t.is, length-append (batches_in spelling t.batches) rest);
+    records_are = t.records_are;
+  }
 
--- batches up to a closed gate
-pub takes_all : (h : Header) (bytes rest behind : List ℕ) (records : List Record) → TakesBatches h bytes records rest → rest ≡ 0 ∷ behind → ReadsBatches h bytes (length bytes - length rest) records
-takes_all h bytes rest behind records t shut = record {
-  batches = t.batches;
-  rest = behind;
-  good = t.good;
-  is = t.is ∙ ap (λ (l : List ℕ). batches_bytes t.batches ++ l) shut;
-  gate_is = omega (arith, ap (λ (l : List ℕ). length l) t.is, length-append (batches_bytes t.batches) rest);
-  records_are = t.records_are;
-}
+  -- what goes wrong behind batches
+  stumbles_behind : (h : Header) (bytes rest : List ℕ) (records : List Record) (IsWrong : List ℕ → Type 0) → TakesIn spelling h bytes records rest → StumblesIn spelling h IsWrong rest → StumblesIn spelling h IsWrong bytes
+  stumbles_behind h bytes rest records IsWrong t s = record {
+    batches = t.batches ++ s.batches;
+    rest = s.rest;
+    good = all-append (IsBatch h) t.batches s.batches t.good s.good;
+    is = bytes_of_both t.batches s.batches bytes rest s.rest t.is s.is;
+    wrong = s.wrong;
+  }
 
--- what goes wrong behind batches
-stumbles_behind : (h : Header) (bytes rest : List ℕ) (records : List Record) (IsWrong : List ℕ → Type 0) → TakesBatches h bytes records rest → Stumbles h IsWrong rest → Stumbles h IsWrong bytes
-stumbles_behind h bytes rest records IsWrong t s = record {
-  batches = t.batches ++ s.batches;
-  rest = s.rest;
-  good = all-append (IsBatch h) t.batches s.batches t.good s.good;
-  is = bytes_of_both t.batches s.batches bytes rest s.rest t.is s.is;
-  wrong = s.wrong;
-}
-
-pub breaks_behind : (h : Header) (bytes rest : List ℕ) (records : List Record) (fault : JournalFault) → TakesBatches h bytes records rest → BreaksBatches h fault rest → BreaksBatches h fault bytes
-breaks_behind h bytes rest records NotEmpty t breaks = breaks
-breaks_behind h bytes rest records BadHeader t breaks = breaks
-breaks_behind h bytes rest records OtherHeader t breaks = breaks
-breaks_behind h bytes rest records BadRecord t breaks = stumbles_behind h bytes rest records (IsBad h) t breaks
-breaks_behind h bytes rest records CutShort t breaks = stumbles_behind h bytes rest records IsCut t breaks
-breaks_behind h bytes rest records Device t breaks = breaks
-breaks_behind h bytes rest records Memory t breaks = breaks
-breaks_behind h bytes rest records Stopped t breaks = breaks
-breaks_behind h bytes rest records Full t breaks = breaks
-breaks_behind h bytes rest records OldVersion t breaks = breaks
+  pub breaks_behind : (h : Header) (bytes rest : List ℕ) (records : List Record) (fault : JournalFault) → TakesIn spelling h bytes records rest → BreaksIn spelling h fault rest → BreaksIn spelling h fault bytes
+  breaks_behind h bytes rest records NotEmpty t breaks = breaks
+  breaks_behind h bytes rest records BadHeader t breaks = breaks
+  breaks_behind h bytes rest records OtherHeader t breaks = breaks
+  breaks_behind h bytes rest records BadRecord t breaks = stumbles_behind h bytes rest records (IsBadIn spelling h) t breaks
+  breaks_behind h bytes rest records CutShort t breaks = stumbles_behind h bytes rest records (IsCutIn spelling) t breaks
+  breaks_behind h bytes rest records Device t breaks = breaks
+  breaks_behind h bytes rest records Memory t breaks = breaks
+  breaks_behind h bytes rest records Stopped t breaks = breaks
+  breaks_behind h bytes rest records Full t breaks = breaks
+  breaks_behind h bytes rest records OldVersion t breaks = breaks
 
 -- Bytes that are batches up to a closed gate: of the first batches of theirs the records are the first.
 pub left_behind : (h : Header) (bytes behind shut : List ℕ) (records added : List Record) → IsSize h.size → TakesBatches h bytes records (0 ∷ shut) → TakesBatches h bytes added behind

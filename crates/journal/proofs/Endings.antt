@@ -23,14 +23,14 @@ EndsIn spelling h Bad x = IsBadIn spelling h x
 alike : (x y z : List ℕ) → x ≡ y → x ≡ z → y ≡ z
 alike x y z a b = sym a ∙ b
 
-module _ (spelling : Spelling) (fixed : IsSpelling spelling) where
+module _ (spelling : Spelling) (is_spelling : IsSpelling spelling) where
   same_records : (h : Header) (rs qs : List Record) → IsSize h.size → AreWellFormedFor h rs → AreWellFormedFor h qs → length rs ≡ length qs → flat_map spelling.bytes rs ≡ flat_map spelling.bytes qs → rs ≡ qs
   same_records h [] [] lawful are are' size same = refl
   same_records h [] (q ∷ qs) lawful are are' size same = absurd (omega (arith, size))
   same_records h (r ∷ rs) [] lawful are are' size same = absurd (omega (arith, size))
   same_records h (r ∷ rs) (q ∷ qs) lawful are are' size same =
-      let parts = same_front (spelling.bytes r) (spelling.bytes q) (flat_map spelling.bytes rs) (flat_map spelling.bytes qs) (fixed.long r ∙ sym (fixed.long q)) same in
-      (λ i. fixed.one h r q lawful are.0 are'.0 parts.0 i ∷ same_records h rs qs lawful are.1 are'.1 (omega (arith, size)) parts.1 i)
+      let parts = same_front (spelling.bytes r) (spelling.bytes q) (flat_map spelling.bytes rs) (flat_map spelling.bytes qs) (is_spelling.fixed.long r ∙ sym (is_spelling.fixed.long q)) same in
+      (λ i. is_spelling.one h r q lawful are.0 are'.0 parts.0 i ∷ same_records h rs qs lawful are.1 are'.1 (omega (arith, size)) parts.1 i)
 
   -- one batch in front: its records, and what stands behind it
   same_batch : (h : Header) (b c : Batch) (x y : List ℕ) → IsSize h.size → IsBatch h b → IsBatch h c → batch_in spelling b ++ x ≡ batch_in spelling c ++ y → (b.records ≡ c.records) × (x ≡ y)
@@ -39,7 +39,7 @@ module _ (spelling : Spelling) (fixed : IsSpelling spelling) where
       let low : length b.records % 256 ≡ length c.records % 256 = cc same in
       let size : length b.records ≡ length c.records = omega (arith, high, low, is.few, is'.few) in
       let behind : flat_map spelling.bytes b.records ++ x ≡ flat_map spelling.bytes c.records ++ y = cc same in
-      let parts = same_front (flat_map spelling.bytes b.records) (flat_map spelling.bytes c.records) x y (length-spelled spelling fixed.long b.records ∙ ap (λ (n : ℕ). spelling.width * n) size ∙ sym (length-spelled spelling fixed.long c.records)) behind in
+      let parts = same_front (flat_map spelling.bytes b.records) (flat_map spelling.bytes c.records) x y (length-spelled spelling is_spelling.fixed.long b.records ∙ ap (λ (n : ℕ). spelling.width * n) size ∙ sym (length-spelled spelling is_spelling.fixed.long c.records)) behind in
       (same_records h b.records c.records lawful is.good is'.good size parts.0, parts.1)
 
   -- the k-th record's bytes
@@ -49,7 +49,7 @@ module _ (spelling : Spelling) (fixed : IsSpelling spelling) where
     r,
     good.0,
     ap (λ (n : ℕ). take spelling.width (drop n ((spelling.bytes r ++ flat_map spelling.bytes rs) ++ z))) (mul-zero spelling.width)
-        ∙ ap (λ (l : List ℕ). take spelling.width l) (append_assoc (spelling.bytes r) (flat_map spelling.bytes rs) z) ∙ take_at (spelling.bytes r) (flat_map spelling.bytes rs ++ z) spelling.width (fixed.long r),
+        ∙ ap (λ (l : List ℕ). take spelling.width l) (append_assoc (spelling.bytes r) (flat_map spelling.bytes rs) z) ∙ take_at (spelling.bytes r) (flat_map spelling.bytes rs ++ z) spelling.width (is_spelling.fixed.long r),
   )
   record_of_batch h (r ∷ rs) (suc k) z good below =
       let next = record_of_batch h rs k z good.1 (omega (arith, below)) in
@@ -58,7 +58,7 @@ module _ (spelling : Spelling) (fixed : IsSpelling spelling) where
         next.1,
         ap (λ (n : ℕ). take spelling.width (drop n ((spelling.bytes r ++ flat_map spelling.bytes rs) ++ z))) far
             ∙ ap (λ (l : List ℕ). take spelling.width l) (sym (drop-drop (spelling.width * k) spelling.width ((spelling.bytes r ++ flat_map spelling.bytes rs) ++ z))
-            ∙ ap (λ (l : List ℕ). drop (spelling.width * k) l) (ap (λ (l : List ℕ). drop spelling.width l) (append_assoc (spelling.bytes r) (flat_map spelling.bytes rs) z) ∙ drop_at (spelling.bytes r) (flat_map spelling.bytes rs ++ z) spelling.width (fixed.long r)))
+            ∙ ap (λ (l : List ℕ). drop (spelling.width * k) l) (ap (λ (l : List ℕ). drop spelling.width l) (append_assoc (spelling.bytes r) (flat_map spelling.bytes rs) z) ∙ drop_at (spelling.bytes r) (flat_map spelling.bytes rs ++ z) spelling.width (is_spelling.fixed.long r)))
             ∙ next.2,
       )
 
@@ -74,7 +74,7 @@ module _ (spelling : Spelling) (fixed : IsSpelling spelling) where
       let cut : IsCutIn spelling (batch_in spelling b ++ z) = subst (λ (l : List ℕ). IsCutIn spelling l) same ends in
       let count : 256 * (length b.records / 256 % 256) + length b.records % 256 ≡ length b.records = omega (arith, is.few) in
       let short : length (flat_map spelling.bytes b.records ++ z) ≤ spelling.width * length b.records = subst (λ (n : ℕ). length (flat_map spelling.bytes b.records ++ z) ≤ spelling.width * n) count cut.1 in
-      (refl, nil_from_length z (omega (arith, short, length-append (flat_map spelling.bytes b.records) z, length-spelled spelling fixed.long b.records)))
+      (refl, nil_from_length z (omega (arith, short, length-append (flat_map spelling.bytes b.records) z, length-spelled spelling is_spelling.fixed.long b.records)))
   batch_ends h b z Bad x is same ends =
       let heads : ends.gate ∷ ends.high ∷ ends.low ∷ ends.behind ≡ batch_in spelling b ++ z = alike x (ends.gate ∷ ends.high ∷ ends.low ∷ ends.behind) (batch_in spelling b ++ z) ends.is same in
       let high : ends.high ≡ length b.records / 256 % 256 = cc heads in

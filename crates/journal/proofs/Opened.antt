@@ -3,7 +3,7 @@ use Rattle.std.proofs.Common.{◌≡◌, ℕ, ◌+◌, ◌≤◌, List, [], ◌�
 use Rattle.std.proofs.lemmas.List.{drop_all}
 use Rattle.terms_prelude.specs.Terms.{Record, Header}
 use Rattle.disk.specs.Model.{State, at_rest, overwritten}
-use Rattle.journal.specs.Words.{JournalFault, NotEmpty, BadHeader, OtherHeader, BadRecord, CutShort, Device, Memory, Stopped, Full, OldVersion, header_text, batches_bytes, IsHeader, HasHeader, GoesWrong, RefusesFile, IsHeld, IsOfFile, IsOldVersion, ReadsBatches, Stumbles, BreaksBatches}
+use Rattle.journal.specs.Words.{JournalFault, NotEmpty, BadHeader, OtherHeader, BadRecord, CutShort, Device, Memory, Stopped, Full, OldVersion, header_text, batches_bytes, IsHeader, HasHeader, GoesWrong, RefusesFile, IsHeld, IsOfFile, IsOldVersion, version_2, ReadsIn, StumblesIn, BreaksBatches}
 use Rattle.journal.proofs.Headers.{mark_again}
 use Rattle.journal.proofs.Texts.{length-header_text}
 
@@ -42,7 +42,7 @@ begins_with h front file lawful text is = record {
 }
 
 -- what was read behind the header is held
-pub held_from : (file behind : List ℕ) (header : Header) (gate : ℕ) (records : List Record) → HasHeader header file → behind ≡ drop 24 file → ReadsBatches header behind gate records → IsHeld (at_rest file) header (24 + gate) records
+pub held_from : (file behind : List ℕ) (header : Header) (gate : ℕ) (records : List Record) → HasHeader header file → behind ≡ drop 24 file → ReadsIn version_2 header behind gate records → IsHeld (at_rest file) header (24 + gate) records
 held_from file behind header gate records has is reads = record {
   lawful = has.lawful;
   batches = reads.batches;
@@ -55,7 +55,7 @@ held_from file behind header gate records has is reads = record {
 }
 
 -- what went wrong behind the header goes wrong in the file
-wrong_from : (file behind : List ℕ) (header : Header) (IsWrong : List ℕ → Type 0) → HasHeader header file → behind ≡ drop 24 file → Stumbles header IsWrong behind → GoesWrong header IsWrong file
+pub wrong_from : (file behind : List ℕ) (header : Header) (IsWrong : List ℕ → Type 0) → HasHeader header file → behind ≡ drop 24 file → StumblesIn version_2 header IsWrong behind → GoesWrong header IsWrong file
 wrong_from file behind header IsWrong has is stumbles = record {
   lawful = has.lawful;
   batches = stumbles.batches;

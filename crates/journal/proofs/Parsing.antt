@@ -7,7 +7,7 @@ use Rattle.std.proofs.lemmas.Nat.{be_bytes_2}
 use Rattle.std.specs.List.{flat_map}
 use Rattle.std.specs.Int.{w16, to_be_bytes}
 use Rattle.terms_prelude.specs.Terms.{Record, Header, IsSize}
-use Rattle.journal.specs.Words.{Spelling, Batch, body_in, batches_in, IsWellFormedFor, AreWellFormedFor, AreBatches, AreBytes}
+use Rattle.journal.specs.Words.{Spelling, Batch, batch_records, body_in, batches_in, IsCutIn, IsBadIn, ReadsIn, StumblesIn, IsWellFormedFor, AreWellFormedFor, AreBatches, AreBytes}
 use Rattle.journal.proofs.Endings.{Ending, Closed, Cut, Bad, EndsIn}
 use Rattle.journal.proofs.Headers.{two_fit}
 use Rattle.journal.proofs.Texts.{batch_of}
@@ -48,7 +48,7 @@ module _ (spelling : Spelling) (told : (h : Header) (b : List ℕ) → IsSize h.
       ]
 
   -- batches, and an ending
-  pub record Parsed (h : Header) (bytes : List ℕ) : Type 0 where
+  record Parsed (h : Header) (bytes : List ℕ) : Type 0 where
     pub batches : List Batch
     pub good : AreBatches h batches
     pub rest : List ℕ
@@ -103,10 +103,37 @@ module _ (spelling : Spelling) (told : (h : Header) (b : List ℕ) → IsSize h.
       behind_gate h n gate high low behind size opened are (omega (arith, le)) next
 
   -- by induction on a bound of the length
-  pub parsed : (h : Header) (n : ℕ) (bytes : List ℕ) → IsSize h.size → AreBytes bytes → length bytes ≤ n → Parsed h bytes
+  parsed : (h : Header) (n : ℕ) (bytes : List ℕ) → IsSize h.size → AreBytes bytes → length bytes ≤ n → Parsed h bytes
   parsed h n [] size are le = at_end h [] Cut tt
   parsed h zero (gate ∷ after) size are le = absurd (omega (arith, le))
   parsed h (suc n) (gate ∷ after) size are le = elim (cases_eq gate 0) [
     | inl shut ↦ at_end h (gate ∷ after) Closed (after, ap (λ (b : ℕ). b ∷ after) shut)
     | inr opened ↦ opened_gate h n gate after size are le opened (λ rest are' le'. parsed h n rest size are' le')
   ]
+
+  -- records up to a closed gate, or what is wrong
+  abbrev Outcome : Header → List ℕ → Type 0
+  Outcome h bytes = ((gate : ℕ) × (records : List Record) × ReadsIn spelling h bytes gate records) ⊎ StumblesIn spelling h (IsCutIn spelling) bytes ⊎ StumblesIn spelling h (IsBadIn spelling h) bytes
+
+  by_end : (h : Header) (bytes : List ℕ) (batches : List Batch) (rest : List ℕ) (e : Ending) → AreBatches h batches → EndsIn spelling h e rest → bytes ≡ batches_in spelling batches ++ rest → Outcome h bytes
+  by_end h bytes batches rest Closed good ends is = inl (
+    length (batches_in spelling batches),
+    batch_records batches,
+    record {
+      batches = batches;
+      rest = ends.0;
+      good = good;
+      is = is ∙ ap (λ (l : List ℕ). batches_in spelling batches ++ l) ends.1;
+      gate_is = refl;
+      records_are = refl;
+    },
+  )
+  by_end h bytes batches rest Cut good ends is =
+      inr (inl (record { batches = batches; rest = rest; good = good; is = is; wrong = ends }))
+  by_end h bytes batches rest Bad good ends is =
+      inr (inr (record { batches = batches; rest = rest; good = good; is = is; wrong = ends }))
+
+  pub read_or_wrong : (h : Header) (bytes : List ℕ) → IsSize h.size → AreBytes bytes → Outcome h bytes
+  read_or_wrong h bytes size are =
+      let p = parsed h (length bytes) bytes size are (omega arith) in
+      by_end h bytes p.batches p.rest p.end p.good p.ends p.is

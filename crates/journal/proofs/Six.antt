@@ -1,28 +1,12 @@
 -- Records of version 2: six bytes each.
-use Rattle.std.proofs.Common.{◌≡◌, ◌⊎◌, inl, inr, ℕ, ◌+◌, ◌*◌, ◌<◌, ◌≤◌, ◌≢◌, Bool, true, false, nat_eq, if◌then◌else◌, List, [], ◌∷◌, ◌++◌, length, get_or, take, refl, sym, ◌∙◌, ap, subst, arith}
-use Rattle.std.proofs.lemmas.List.{take_rest}
+use Rattle.std.proofs.Common.{◌≡◌, ℕ, Bool, true, false, nat_eq, if◌then◌else◌, List, get_or, refl, sym, ◌∙◌, ap, arith}
 use Rattle.terms_prelude.specs.Terms.{Kind, Initial, Echo, Ready, Record, Said, Decided, Header, IsSize, new_place, new_statement}
 use Rattle.statement_codec.specs.Statements.{kind_byte, kind_from, value_from}
 use Rattle.statement_codec.proofs.Statements.{kind_again, value_again}
-use Rattle.journal.specs.Words.{JournalFault, BadRecord, Memory, bit_byte, record_bytes, version_2, IsWellFormedFor, IsBad, HasOddRecord, BreaksBatches}
+use Rattle.journal.specs.Words.{bit_byte, record_bytes, version_2, IsWellFormedFor}
 use Rattle.journal.proofs.Records.{asked, step_in, value_in, said_back, decided_back}
 use Rattle.journal.proofs.Spelled.{IsSpelling}
-use Rattle.journal.proofs.Steps.{Read, past, high_of, low_of, behind_of, bytes_of, stumbles, bad_record}
 use Rattle.journal.proofs.Texts.{length-record_text}
-
--- the first six bytes
-abbrev pub six_of : List ℕ → List ℕ
-six_of rest =
-    get_or rest 0 0 ∷ get_or rest 1 0 ∷ get_or rest 2 0 ∷ get_or rest 3 0 ∷ get_or rest 4 0 ∷ get_or rest 5 0 ∷ []
-
-pub split_six : (rest : List ℕ) → 6 ≤ length rest → rest ≡ six_of rest ++ past 6 rest
-split_six [] long = absurd (omega arith)
-split_six (a ∷ []) long = absurd (omega arith)
-split_six (a ∷ b ∷ []) long = absurd (omega arith)
-split_six (a ∷ b ∷ c ∷ []) long = absurd (omega arith)
-split_six (a ∷ b ∷ c ∷ d ∷ []) long = absurd (omega arith)
-split_six (a ∷ b ∷ c ∷ d ∷ e ∷ []) long = absurd (omega arith)
-split_six (a ∷ b ∷ c ∷ d ∷ e ∷ f ∷ rest) long = ap (λ (l : List ℕ). a ∷ b ∷ c ∷ d ∷ e ∷ f ∷ l) (sym (take_rest (a ∷ b ∷ c ∷ d ∷ e ∷ f ∷ rest) 6))
 
 -- the bit of a byte
 abbrev pub bit_from : ℕ → Bool
@@ -65,13 +49,7 @@ same_record h r q size well well' same =
     sym (record_back (record_bytes r) h r size well refl) ∙ record_back (record_bytes r) h q size well' same
 
 pub six : IsSpelling version_2
-six = record { some = omega arith; long = length-record_text; one = same_record }
-
--- why a batch was refused
-pub broken : (header : Header) (bytes rest : List ℕ) (now : List Record) (fault : JournalFault) → Read version_2 six header bytes rest now → 1 ≤ length rest → get_or rest 0 0 ≢ 0 → 2 ≤ length (past 1 rest) → bytes_of version_2 six rest < length (behind_of rest)
-    → (fault ≡ Memory) ⊎ ((fault ≡ BadRecord) × HasOddRecord header (high_of rest * 256 + low_of rest) (take (bytes_of version_2 six rest) (behind_of rest))) → BreaksBatches header fault bytes
-broken header bytes rest now fault so_far long opened long2 enough (inl memory) =
-    subst (λ (f : JournalFault). BreaksBatches header f bytes) (sym memory) tt
-broken header bytes rest now fault so_far long opened long2 enough (inr bad) =
-    subst (λ (f : JournalFault). BreaksBatches header f bytes) (sym bad.0)
-    (stumbles version_2 six header bytes rest now (IsBad header) so_far (bad_record version_2 six header rest long opened long2 enough bad.1))
+six = record {
+  fixed = record { some = omega arith; few = omega arith; long = length-record_text };
+  one = same_record;
+}

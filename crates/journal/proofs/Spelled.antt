@@ -1,14 +1,13 @@
 -- A spelling of records, and counts of their bytes.
-use Rattle.std.proofs.Common.{◌≡◌, inl, inr, ℕ, ◌+◌, ◌*◌, ◌<◌, ◌≤◌, length, arith}
+use Rattle.std.proofs.Common.{◌≡◌, inl, inr, ℕ, ◌+◌, ◌*◌, ◌<◌, ◌≤◌, arith}
 use Rattle.std.proofs.Math.Nat.{mul-suc, mul-le-mul_left}
 use Rattle.std.proofs.lemmas.Bool.{cases_lt}
 use Rattle.terms_prelude.specs.Terms.{Record, Header, IsSize}
-use Rattle.journal.specs.Words.{Spelling, IsWellFormedFor}
+use Rattle.journal.specs.Words.{Spelling, HasWidth, IsWellFormedFor}
 
 -- each record has as many bytes, and no two of one header have the same
 pub record IsSpelling (spelling : Spelling) : Type 0 where
-  pub some : 0 < spelling.width
-  pub long : (r : Record) → length (spelling.bytes r) ≡ spelling.width
+  pub fixed : HasWidth spelling
   pub one : (h : Header) (r q : Record) → IsSize h.size → IsWellFormedFor h r → IsWellFormedFor h q → spelling.bytes r ≡ spelling.bytes q → r ≡ q
 
 -- the bytes of one more are within those of so many

@@ -4,7 +4,7 @@ use Rattle.std.proofs.Math.Nat.{mul-suc, mul-zero}
 use Rattle.std.proofs.lemmas.List.Concat.{flat_map-append}
 use Rattle.std.specs.List.{flat_map, AllByRecursion}
 use Rattle.terms_prelude.specs.Terms.{Record, Said, Decided, Header}
-use Rattle.journal.specs.Words.{Spelling, version_2, record_bytes, header_text, Batch, batch_in, batches_in, batch_bytes, batch_body, batches_bytes, batch_records, AreBatches, IsBatch}
+use Rattle.journal.specs.Words.{Spelling, version_2, record_bytes, header_text, Batch, batch_bytes, batch_body, batches_bytes, batch_records, AreBatches, IsBatch}
 
 -- a header has 24 bytes
 pub length-header_text : (h : Header) → length (header_text h) ≡ 24
@@ -35,20 +35,21 @@ abbrev pub batch_of : ℕ → List Record → Batch
 batch_of gate records = record { gate = gate; records = records }
 
 -- one batch more
-pub spelled-push : (spelling : Spelling) (bs : List Batch) (b : Batch) → batches_in spelling (bs ++ b ∷ []) ≡ batches_in spelling bs ++ batch_in spelling b
-spelled-push spelling bs b =
-    flat_map-append (batch_in spelling) bs (b ∷ []) ∙ ap (λ (l : List ℕ). batches_in spelling bs ++ l) (append-nil (batch_in spelling b))
-
 pub texts-push : (bs : List Batch) (b : Batch) → batches_bytes (bs ++ b ∷ []) ≡ batches_bytes bs ++ batch_bytes b
-texts-push bs b = spelled-push version_2 bs b
+texts-push bs b =
+    flat_map-append batch_bytes bs (b ∷ []) ∙ ap (λ (l : List ℕ). batches_bytes bs ++ l) (append-nil (batch_bytes b))
 
 pub records-push : (bs : List Batch) (b : Batch) → batch_records (bs ++ b ∷ []) ≡ batch_records bs ++ b.records
 records-push bs b =
     flat_map-append (λ (batch : Batch). batch.records) bs (b ∷ []) ∙ ap (λ (l : List Record). batch_records bs ++ l) (append-nil b.records)
 
+-- what holds of two lists holds of both
+pub all-append : {X : Type 0} (P : X → Type 0) (xs ys : List X) → AllByRecursion P xs → AllByRecursion P ys → AllByRecursion P (xs ++ ys)
+all-append P [] ys all more = more
+all-append P (x ∷ xs) ys all more = (all.0, all-append P xs ys all.1 more)
+
 pub all-push : {X : Type 0} (P : X → Type 0) (xs : List X) (x : X) → AllByRecursion P xs → P x → AllByRecursion P (xs ++ x ∷ [])
-all-push P [] x all is = (is, tt)
-all-push P (y ∷ xs) x all is = (all.0, all-push P xs x all.1 is)
+all-push P xs x all is = all-append P xs (x ∷ []) all (is, tt)
 
 pub good-push : (h : Header) (bs : List Batch) (b : Batch) → AreBatches h bs → IsBatch h b → AreBatches h (bs ++ b ∷ [])
 good-push h bs b good is = all-push (IsBatch h) bs b good is

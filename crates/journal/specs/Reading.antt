@@ -7,7 +7,7 @@ use Rattle.journal.specs.declared.fault.JournalFault.TheVariants.{NotEmpty, BadH
 use Rattle.journal.specs.Texts.{Spelling, version_2, Batch, batches_in, batch_records}
 use Rattle.statement_codec.specs.Statements.{kind_byte}
 use Rattle.journal.specs.WellFormed.{IsWellFormedFor, AreWellFormedFor, AreBatches}
-use Rattle.journal.specs.File.{IsCut, IsBad}
+use Rattle.journal.specs.File.{IsCutIn, IsBadIn}
 
 -- These bytes are the texts of batches whose records in order are these, a closed gate at this place, and anything.
 pub record ReadsIn (spelling : Spelling) (header : Header) (bytes : List ℕ) (gate : ℕ) (records : List Record) : Type 0 where
@@ -38,24 +38,11 @@ pub record HasOddIn (spelling : Spelling) (header : Header) (count : ℕ) (bytes
   pub odd : (r : Record) → IsWellFormedFor header r → take spelling.width (drop (spelling.width * place) bytes) ≢ spelling.bytes r
 
 -- In front of these bytes stand batches whose records in order are these, and behind them that.
-pub record TakesBatches (header : Header) (bytes : List ℕ) (records : List Record) (behind : List ℕ) : Type 0 where
+pub record TakesIn (spelling : Spelling) (header : Header) (bytes : List ℕ) (records : List Record) (behind : List ℕ) : Type 0 where
   pub batches : List Batch
   pub good : AreBatches header batches
-  pub is : bytes ≡ batches_in version_2 batches ++ behind
+  pub is : bytes ≡ batches_in spelling batches ++ behind
   pub records_are : records ≡ batch_records batches
-
--- the same in the spelling of version 2
-abbrev pub ReadsBatches : Header → List ℕ → ℕ → List Record → Type 0
-ReadsBatches header bytes gate records = ReadsIn version_2 header bytes gate records
-
-abbrev pub Stumbles : Header → (List ℕ → Type 0) → List ℕ → Type 0
-Stumbles header IsWrong bytes = StumblesIn version_2 header IsWrong bytes
-
-abbrev pub AreText : Header → List ℕ → List Record → Type 0
-AreText header bytes records = AreTextIn version_2 header bytes records
-
-abbrev pub HasOddRecord : Header → ℕ → List ℕ → Type 0
-HasOddRecord header count bytes = HasOddIn version_2 header count bytes
 
 -- these are the parts of a statement in bytes
 pub record HasBytes (s : Statement) (kind question origin round step value : ℕ) : Type 0 where
@@ -64,14 +51,21 @@ pub record HasBytes (s : Statement) (kind question origin round step value : ℕ
   pub value_is : value_code s.value ≡ value
 
 -- why bytes behind a header were refused: by want of memory, or so
+abbrev pub BreaksIn : Spelling → Header → JournalFault → List ℕ → Type 0
+BreaksIn spelling header NotEmpty bytes = ⊥
+BreaksIn spelling header BadHeader bytes = ⊥
+BreaksIn spelling header OtherHeader bytes = ⊥
+BreaksIn spelling header BadRecord bytes = StumblesIn spelling header (IsBadIn spelling header) bytes
+BreaksIn spelling header CutShort bytes = StumblesIn spelling header (IsCutIn spelling) bytes
+BreaksIn spelling header Device bytes = ⊥
+BreaksIn spelling header Memory bytes = Unit {0}
+BreaksIn spelling header Stopped bytes = ⊥
+BreaksIn spelling header Full bytes = ⊥
+BreaksIn spelling header OldVersion bytes = ⊥
+
+-- the same in the spelling of version 2
+abbrev pub TakesBatches : Header → List ℕ → List Record → List ℕ → Type 0
+TakesBatches header bytes records behind = TakesIn version_2 header bytes records behind
+
 abbrev pub BreaksBatches : Header → JournalFault → List ℕ → Type 0
-BreaksBatches header NotEmpty bytes = ⊥
-BreaksBatches header BadHeader bytes = ⊥
-BreaksBatches header OtherHeader bytes = ⊥
-BreaksBatches header BadRecord bytes = Stumbles header (IsBad header) bytes
-BreaksBatches header CutShort bytes = Stumbles header IsCut bytes
-BreaksBatches header Device bytes = ⊥
-BreaksBatches header Memory bytes = Unit {0}
-BreaksBatches header Stopped bytes = ⊥
-BreaksBatches header Full bytes = ⊥
-BreaksBatches header OldVersion bytes = ⊥
+BreaksBatches header fault bytes = BreaksIn version_2 header fault bytes

@@ -1,5 +1,5 @@
 -- The bytes of records, headers and batches.
-use Rattle.std.specs.Prelude.{ℕ, ◌+◌, ◌*◌, Bool, true, false, codes, List, [], ◌∷◌, ◌++◌, length, drop}
+use Rattle.std.specs.Prelude.{ℕ, ◌≡◌, ◌+◌, ◌*◌, ◌<◌, ◌≤◌, Bool, true, false, codes, List, [], ◌∷◌, ◌++◌, length, drop}
 use Rattle.std.specs.List.{flat_map}
 use Rattle.std.specs.Int.{w16, w64, to_be_bytes}
 use Rattle.terms_prelude.specs.Terms.{Statement, Record, Said, Decided, Header, value_code}
@@ -46,6 +46,12 @@ pub record Batch : Type 0 where
 pub record Spelling : Type 0 where
   pub width : ℕ
   pub bytes : Record → List ℕ
+
+-- each record in as many, 1 to 255
+pub record HasWidth (spelling : Spelling) : Type 0 where
+  pub some : 0 < spelling.width
+  pub few : spelling.width ≤ 255
+  pub long : (r : Record) → length (spelling.bytes r) ≡ spelling.width
 
 -- what stands behind a batch's gate in a spelling: the count of its records in two bytes, and the records
 abbrev pub body_in : Spelling → List Record → List ℕ

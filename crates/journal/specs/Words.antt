@@ -12,7 +12,7 @@ pub use Rattle.journal.specs.Outcomes.{AddsAllOrNothing, HandsBack, HasAdded, Ha
 pub use Rattle.journal.specs.Passing.{OneLeaves, PassesThrough, last_of}
 unfoldable pub use Rattle.journal.specs.Readers.{journal_disk, journal_gate, journal_header, journal_is_stopped}
 pub use Rattle.journal.specs.Readers.{IsAtRest}
-pub use Rattle.journal.specs.Reading.{AreText, AreTextIn, BreaksBatches, HasBytes, HasOddIn, HasOddRecord, ReadsBatches, ReadsIn, Stumbles, StumblesIn, TakesBatches}
+pub use Rattle.journal.specs.Reading.{AreTextIn, BreaksBatches, BreaksIn, HasBytes, HasOddIn, ReadsIn, StumblesIn, TakesBatches, TakesIn}
 unfoldable pub use Rattle.journal.specs.Texts.{header_text, record_bytes}
-pub use Rattle.journal.specs.Texts.{Batch, Spelling, batch_body, batch_bytes, batch_in, batch_records, batches_bytes, batches_in, body_in, bit_byte, draft_text, journal_text, new_batch, version_2}
+pub use Rattle.journal.specs.Texts.{Batch, HasWidth, Spelling, batch_body, batch_bytes, batch_in, batch_records, batches_bytes, batches_in, body_in, bit_byte, draft_text, journal_text, new_batch, version_2}
 pub use Rattle.journal.specs.WellFormed.{AreBatches, AreWellFormedFor, IsBatch, IsDecisionFor, IsHeader, IsStatementFor, IsWellFormedFor}

@@ -11,6 +11,7 @@ ghost use Rattle.journal.specs.Left.{HasLeft, bytes_left};
 
 use crate::JournalFault;
 use crate::header::HEADER;
+use crate::layout::Version2;
 use crate::open::{behind_header, fetch};
 use crate::read::read_batch;
 use disk::Disk;
@@ -74,7 +75,7 @@ impl Batches {
             (λ more. more ≡ true → bytes_left self.new < bytes_left self.old) }
     {
         records.clear();
-        match read_batch(&self.header, rest_from(&self.bytes, self.at), records)? {
+        match read_batch::<Version2>(&self.header, rest_from(&self.bytes, self.at), records)? {
             Some(behind) => {
                 self.at = self.bytes.len() - behind.len();
                 Ok(true)
@@ -109,7 +110,7 @@ fn check(alloc: Global, header: &Header, bytes: &[u8]) -> Result<(), JournalFaul
     let mut rest = bytes;
     'batches: loop {
         records.clear();
-        match read_batch(header, rest, &mut records)? {
+        match read_batch::<Version2>(header, rest, &mut records)? {
             Some(behind) => rest = behind,
             None => return Ok(()),
         }

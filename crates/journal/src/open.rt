@@ -10,7 +10,8 @@ ghost use Rattle.journal.specs.declared.fault.JournalFault.TheVariants.{Device, 
 
 use crate::JournalFault;
 use crate::header::{HEADER, header_of, is_old, new_file};
-use crate::read::read;
+use crate::layout::Version2;
+use crate::read::read_batches;
 use disk::Disk;
 use std::alloc::Global;
 use terms::{Header, Record};
@@ -171,7 +172,7 @@ pub fn read_file(
     ensures only { IfErr result (λ fault. IsOfFile fault ⊎ (fault ≡ Memory)) }
 {
     let behind = behind_header(header, bytes)?;
-    let (gate, records) = read(alloc, header, behind)?;
+    let (gate, records) = read_batches::<Version2>(alloc, header, behind)?;
     Ok((HEADER + gate, records))
 }
 

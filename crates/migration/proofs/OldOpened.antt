@@ -1,9 +1,12 @@
 -- A file of version 1 that is read.
-use Rattle.std.proofs.Common.{◌≡◌, ◌⊎◌, inl, inr, ℕ, ◌≤◌, List, [], ◌∷◌, ◌++◌, length, take, drop, refl, sym, ◌∙◌, ap, subst, arith, append_assoc, length-append, take-append-drop, take_at, take-take}
-use Rattle.std.specs.List.{AllByRecursion}
+use Rattle.std.proofs.Common.{◌≡◌, ◌⊎◌, inl, inr, ℕ, ◌≤◌, true, List, [], ◌∷◌, ◌++◌, length, take, drop, refl, sym, ◌∙◌, ap, subst, arith, append_assoc, length-append, take-append-drop, take_at, take-take}
 use Rattle.terms_prelude.specs.Terms.{Record, Header}
-use Rattle.migration.specs.Words.{MigrateFault, NotEmpty, NotOld, OtherHeader, BadRecord, CutShort, OldDevice, NewDevice, Memory, Full, Batch, batch_records, batches_in, version_1, AreBatches, IsWellFormedFor, AreWellFormedFor, HoldsOld, old_header_text, IsOldHeader, HasOldHeader, GoesOldWrong, RefusesOld, IsOfOldFile, ReadsIn, StumblesIn, BreaksOld}
+use Rattle.migration.specs.Words.{Memory, Batch, batch_records, batches_in, version_1, AreBatches, IsWellFormedFor, AreWellFormedFor, HoldsOld, old_header_text, IsOldHeader, HasOldHeader, GoesOldWrong, RefusesOld, IsOfOldFile, ReadsIn, StumblesIn, BreaksIn, old_fault_of}
+use Rattle.journal.proofs.Headers.{header_eq, same_by}
+use Rattle.journal.proofs.Texts.{all-append}
 use Rattle.journal.specs.File.{IsOldVersion}
+use Rattle.journal.specs.declared.fault.JournalFault.{JournalFault}
+use Rattle.journal.specs.declared.fault.JournalFault.TheVariants as journal
 use Rattle.migration.proofs.OldHeaders.{mark_of}
 use Rattle.migration.proofs.OldTexts.{length-header_text}
 
@@ -24,6 +27,10 @@ begins_with h front file lawful text is = record {
   begins = (drop 24 file, sym (take-append-drop 24 file) ∙ ap (λ (l : List ℕ). l ++ drop 24 file) (sym is ∙ text));
 }
 
+pub begins_with_same : (h k : Header) (front file : List ℕ) → IsOldHeader h → front ≡ old_header_text h → front ≡ take 24 file → header_eq h k ≡ true → HasOldHeader k file
+begins_with_same h k front file lawful text is test =
+    subst (λ (x : Header). HasOldHeader x file) (same_by h k test) (begins_with h front file lawful text is)
+
 -- what was read behind the header is held
 pub held_from : (file behind : List ℕ) (header : Header) (gate : ℕ) (records : List Record) → HasOldHeader header file → behind ≡ drop 24 file → ReadsIn version_1 header behind gate records → HoldsOld header records file
 held_from file behind header gate records has is reads = record {
@@ -36,10 +43,6 @@ held_from file behind header gate records has is reads = record {
 }
 
 -- the records of batches are well formed
-all-append : {X : Type 0} (P : X → Type 0) (xs ys : List X) → AllByRecursion P xs → AllByRecursion P ys → AllByRecursion P (xs ++ ys)
-all-append P [] ys all more = more
-all-append P (x ∷ xs) ys all more = (all.0, all-append P xs ys all.1 more)
-
 records_good : (header : Header) (batches : List Batch) → AreBatches header batches → AreWellFormedFor header (batch_records batches)
 records_good header [] good = tt
 records_good header (b ∷ bs) good = all-append (IsWellFormedFor header) b.records (batch_records bs) good.0.good (records_good header bs good.1)
@@ -49,7 +52,7 @@ read_good header bytes gate records reads =
     subst (λ (l : List Record). AreWellFormedFor header l) (sym reads.records_are) (records_good header reads.batches reads.good)
 
 -- what went wrong behind the header goes wrong in the file
-wrong_from : (file behind : List ℕ) (header : Header) (IsWrong : List ℕ → Type 0) → HasOldHeader header file → behind ≡ drop 24 file → StumblesIn version_1 header IsWrong behind → GoesOldWrong header IsWrong file
+pub wrong_from : (file behind : List ℕ) (header : Header) (IsWrong : List ℕ → Type 0) → HasOldHeader header file → behind ≡ drop 24 file → StumblesIn version_1 header IsWrong behind → GoesOldWrong header IsWrong file
 wrong_from file behind header IsWrong has is stumbles = record {
   lawful = has.lawful;
   batches = stumbles.batches;
@@ -59,28 +62,30 @@ wrong_from file behind header IsWrong has is stumbles = record {
   wrong = stumbles.wrong;
 }
 
-pub refused_from : (file behind : List ℕ) (header : Header) (fault : MigrateFault) → HasOldHeader header file → behind ≡ drop 24 file → BreaksOld header fault behind → IsOfOldFile fault → RefusesOld header fault file
-refused_from file behind header NotEmpty has is breaks of_file = absurd breaks
-refused_from file behind header NotOld has is breaks of_file = absurd breaks
-refused_from file behind header OtherHeader has is breaks of_file = absurd breaks
-refused_from file behind header BadRecord has is breaks of_file = wrong_from file behind header _ has is breaks
-refused_from file behind header CutShort has is breaks of_file = wrong_from file behind header _ has is breaks
-refused_from file behind header OldDevice has is breaks of_file = absurd breaks
-refused_from file behind header NewDevice has is breaks of_file = absurd breaks
-refused_from file behind header Memory has is breaks of_file = absurd of_file
-refused_from file behind header Full has is breaks of_file = absurd breaks
+pub refused_from : (file behind : List ℕ) (header : Header) (fault : JournalFault) → HasOldHeader header file → behind ≡ drop 24 file → BreaksIn version_1 header fault behind → IsOfOldFile (old_fault_of fault) → RefusesOld header (old_fault_of fault) file
+refused_from file behind header journal.NotEmpty has is breaks of_file = absurd breaks
+refused_from file behind header journal.BadHeader has is breaks of_file = absurd breaks
+refused_from file behind header journal.OtherHeader has is breaks of_file = absurd breaks
+refused_from file behind header journal.BadRecord has is breaks of_file = wrong_from file behind header _ has is breaks
+refused_from file behind header journal.CutShort has is breaks of_file = wrong_from file behind header _ has is breaks
+refused_from file behind header journal.Device has is breaks of_file = absurd breaks
+refused_from file behind header journal.Memory has is breaks of_file = absurd of_file
+refused_from file behind header journal.Stopped has is breaks of_file = absurd breaks
+refused_from file behind header journal.Full has is breaks of_file = absurd breaks
+refused_from file behind header journal.OldVersion has is breaks of_file = absurd breaks
 
 -- and it is a fault of the file, or want of memory
-pub broken_so : (header : Header) (behind : List ℕ) (fault : MigrateFault) → BreaksOld header fault behind → IsOfOldFile fault ⊎ (fault ≡ Memory)
-broken_so header behind NotEmpty breaks = absurd breaks
-broken_so header behind NotOld breaks = absurd breaks
-broken_so header behind OtherHeader breaks = absurd breaks
-broken_so header behind BadRecord breaks = inl tt
-broken_so header behind CutShort breaks = inl tt
-broken_so header behind OldDevice breaks = absurd breaks
-broken_so header behind NewDevice breaks = absurd breaks
-broken_so header behind Memory breaks = inr refl
-broken_so header behind Full breaks = absurd breaks
+pub broken_so : (header : Header) (behind : List ℕ) (fault : JournalFault) → BreaksIn version_1 header fault behind → IsOfOldFile (old_fault_of fault) ⊎ (old_fault_of fault ≡ Memory)
+broken_so header behind journal.NotEmpty breaks = absurd breaks
+broken_so header behind journal.BadHeader breaks = absurd breaks
+broken_so header behind journal.OtherHeader breaks = absurd breaks
+broken_so header behind journal.BadRecord breaks = inl tt
+broken_so header behind journal.CutShort breaks = inl tt
+broken_so header behind journal.Device breaks = absurd breaks
+broken_so header behind journal.Memory breaks = inr refl
+broken_so header behind journal.Stopped breaks = absurd breaks
+broken_so header behind journal.Full breaks = absurd breaks
+broken_so header behind journal.OldVersion breaks = absurd breaks
 
 -- a file that begins with a header is of version 1
 pub is_named : (h : Header) (file : List ℕ) → HasOldHeader h file → IsOldVersion file

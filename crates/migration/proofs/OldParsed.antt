@@ -1,14 +1,14 @@
 -- Each file of bytes of version 1 holds records, or is refused.
-use Rattle.std.proofs.Common.{◌≡◌, ◌⊎◌, inl, inr, ℕ, ◌≤◌, Bool, true, false, List, ◌++◌, length, get_or, slice_set, refl, sym, ◌∙◌, ap, subst, arith, append_assoc}
+use Rattle.std.proofs.Common.{◌≡◌, ◌⊎◌, inl, inr, ℕ, ◌≤◌, Bool, true, false, List, ◌++◌, take, drop, get_or, slice_set, refl, sym, ◌∙◌, ap, subst, arith, take-append-drop}
 use Rattle.std.proofs.lemmas.Bool.{cases_eq, cases_lt}
 use Rattle.terms_prelude.specs.Terms.{Record, Header}
-use Rattle.journal.proofs.Endings.{Ending, Closed, Cut, Bad, EndsIn}
 use Rattle.journal.proofs.Headers.{header_eq, same_by, by_same}
 use Rattle.journal.proofs.One.{one_header}
-use Rattle.journal.proofs.Parsing.{bytes_behind, parsed}
+use Rattle.journal.proofs.Parsing.{bytes_behind, read_or_wrong}
 use Rattle.journal.proofs.Telling.{has_header}
-use Rattle.migration.specs.Words.{MigrateFault, NotOld, OtherHeader, BadRecord, CutShort, header_text, old_header_text, Batch, batches_in, batch_records, version_1, AreBatches, AreBytes, HasHeader, IsOldHeader, HasOldHeader, HoldsOld, RefusesOld}
+use Rattle.migration.specs.Words.{MigrateFault, NotOld, OtherHeader, BadRecord, CutShort, header_text, old_header_text, version_1, AreBytes, HasHeader, IsOldHeader, IsCutIn, IsBadIn, HasOldHeader, HoldsOld, RefusesOld}
 use Rattle.migration.proofs.OldHeaders.{renewed, again}
+use Rattle.migration.proofs.OldOpened.{held_from, wrong_from}
 use Rattle.migration.proofs.OldRecords.{is_old_record}
 
 -- a file that begins with a header begins with one of version 2, with its byte
@@ -63,32 +63,15 @@ has_old_header file = elim (cases_eq (get_or file 7 0) 49) [
 abbrev HoldsOrNot : Header → List ℕ → Type 0
 HoldsOrNot h file = ((records : List Record) × HoldsOld h records file) ⊎ ((fault : MigrateFault) × RefusesOld h fault file)
 
--- by how it ends
-by_end : (h : Header) (file : List ℕ) (batches : List Batch) (rest : List ℕ) (e : Ending) → IsOldHeader h → AreBatches h batches → EndsIn version_1 h e rest → file ≡ old_header_text h ++ batches_in version_1 batches ++ rest → HoldsOrNot h file
-by_end h file batches rest Closed lawful good ends is = inl (
-  batch_records batches,
-  record {
-    lawful = lawful;
-    batches = batches;
-    rest = ends.0;
-    good = good;
-    is = is ∙ ap (λ (l : List ℕ). old_header_text h ++ batches_in version_1 batches ++ l) ends.1;
-    records_are = refl;
-  },
-)
-by_end h file batches rest Cut lawful good ends is =
-    inr (CutShort, record { lawful = lawful; batches = batches; rest = rest; good = good; is = is; wrong = ends })
-by_end h file batches rest Bad lawful good ends is =
-    inr (BadRecord, record { lawful = lawful; batches = batches; rest = rest; good = good; is = is; wrong = ends })
-
--- by the header that it has
+-- by what its header is
 by_header : (h k : Header) (file : List ℕ) → IsOldHeader h → AreBytes file → HasOldHeader k file → (b : Bool) → header_eq k h ≡ b → HoldsOrNot h file
 by_header h k file lawful are has true test =
     let begins : HasOldHeader h file = subst (λ (j : Header). HasOldHeader j file) (same_by k h test) has in
-    let behind : List ℕ = begins.begins.0 in
-    let p = parsed version_1 is_old_record h (length behind) behind lawful.lawful.size (bytes_behind (old_header_text h) behind (subst (λ (l : List ℕ). AreBytes l) begins.begins.1 are)) (omega arith) in
-    by_end h file p.batches p.rest p.end lawful p.good p.ends
-    (begins.begins.1 ∙ ap (λ (l : List ℕ). old_header_text h ++ l) p.is ∙ sym (append_assoc (old_header_text h) (batches_in version_1 p.batches) p.rest))
+    elim (read_or_wrong version_1 is_old_record h (drop 24 file) lawful.lawful.size (bytes_behind (take 24 file) (drop 24 file) (subst (λ (l : List ℕ). AreBytes l) (sym (take-append-drop 24 file)) are))) [
+      | inl held ↦ inl (held.1, held_from file (drop 24 file) h held.0 held.1 begins refl held.2)
+      | inr (inl cut) ↦ inr (CutShort, wrong_from file (drop 24 file) h (IsCutIn version_1) begins refl cut)
+      | inr (inr bad) ↦ inr (BadRecord, wrong_from file (drop 24 file) h (IsBadIn version_1 h) begins refl bad)
+    ]
 by_header h k file lawful are has false test =
     inr (OtherHeader, (k, has, λ same. cc (by_same k h same, test)))
 

@@ -1,30 +1,13 @@
 -- A record of version 1 is one of version 2, but for its last two bytes, which are one there.
-use Rattle.std.proofs.Common.{◌≡◌, ◌≢◌, ◌⊎◌, inl, inr, ℕ, zero, suc, ◌+◌, ◌*◌, ◌<◌, ◌≤◌, Bool, true, false, List, [], ◌∷◌, ◌++◌, length, get_or, take, refl, sym, ◌∙◌, ap, subst, arith, append-nil}
+use Rattle.std.proofs.Common.{◌≡◌, ◌≢◌, ◌⊎◌, inl, inr, ℕ, zero, suc, ◌+◌, ◌*◌, ◌<◌, ◌≤◌, Bool, true, false, List, [], ◌∷◌, length, get_or, refl, sym, ◌∙◌, ap, arith}
 use Rattle.std.proofs.lemmas.Bool.{cases_eq, cases_lt}
-use Rattle.std.proofs.lemmas.List.{drop_all, take_rest}
 use Rattle.terms_prelude.specs.Terms.{Value, Record, Said, Decided, Header, IsSize, FitsStep, value_code}
 use Rattle.journal.proofs.Records.{code_small}
 use Rattle.journal.proofs.Six.{same_record as same_new}
 use Rattle.journal.proofs.Spelled.{IsSpelling}
-use Rattle.journal.proofs.Steps.{Read, past, high_of, low_of, behind_of, bytes_of, stumbles, bad_record}
 use Rattle.journal.proofs.Telling.{is_record}
-use Rattle.migration.specs.Words.{MigrateFault, BadRecord, Memory, bit_byte, record_bytes, old_record_bytes, version_1, IsWellFormedFor, IsBadIn, HasOddIn, BreaksOld}
+use Rattle.migration.specs.Words.{bit_byte, record_bytes, old_record_bytes, version_1, IsWellFormedFor}
 use Rattle.migration.proofs.OldTexts.{length-record_text}
-
--- the first seven bytes
-abbrev pub seven_of : List ℕ → List ℕ
-seven_of rest =
-    get_or rest 0 0 ∷ get_or rest 1 0 ∷ get_or rest 2 0 ∷ get_or rest 3 0 ∷ get_or rest 4 0 ∷ get_or rest 5 0 ∷ get_or rest 6 0 ∷ []
-
-pub split_seven : (rest : List ℕ) → 7 ≤ length rest → rest ≡ seven_of rest ++ past 7 rest
-split_seven [] long = absurd (omega arith)
-split_seven (a ∷ []) long = absurd (omega arith)
-split_seven (a ∷ b ∷ []) long = absurd (omega arith)
-split_seven (a ∷ b ∷ c ∷ []) long = absurd (omega arith)
-split_seven (a ∷ b ∷ c ∷ d ∷ []) long = absurd (omega arith)
-split_seven (a ∷ b ∷ c ∷ d ∷ e ∷ []) long = absurd (omega arith)
-split_seven (a ∷ b ∷ c ∷ d ∷ e ∷ f ∷ []) long = absurd (omega arith)
-split_seven (a ∷ b ∷ c ∷ d ∷ e ∷ f ∷ g ∷ rest) long = ap (λ (l : List ℕ). a ∷ b ∷ c ∷ d ∷ e ∷ f ∷ g ∷ l) (sym (take_rest (a ∷ b ∷ c ∷ d ∷ e ∷ f ∷ g ∷ rest) 7))
 
 -- the first five bytes, and one for the last two
 abbrev pub renewed : List ℕ → List ℕ
@@ -61,10 +44,16 @@ last_small b h (Decided question round bit) well same =
     (omega (arith, step), omega (arith, value, bit_small bit))
 
 -- seven bytes one by one
-seven_bytes : (b : List ℕ) → length b ≡ 7 → b ≡ seven_of b
-seven_bytes b long =
-    let none : past 7 b ≡ [] = take_rest b 7 ∙ drop_all 7 b (omega (arith, long)) in
-    split_seven b (omega (arith, long)) ∙ ap (λ (l : List ℕ). seven_of b ++ l) none ∙ append-nil (seven_of b)
+seven_bytes : (b : List ℕ) → length b ≡ 7 → b ≡ get_or b 0 0 ∷ get_or b 1 0 ∷ get_or b 2 0 ∷ get_or b 3 0 ∷ get_or b 4 0 ∷ get_or b 5 0 ∷ get_or b 6 0 ∷ []
+seven_bytes [] long = absurd (omega (arith, long))
+seven_bytes (b0 ∷ []) long = absurd (omega (arith, long))
+seven_bytes (b0 ∷ b1 ∷ []) long = absurd (omega (arith, long))
+seven_bytes (b0 ∷ b1 ∷ b2 ∷ []) long = absurd (omega (arith, long))
+seven_bytes (b0 ∷ b1 ∷ b2 ∷ b3 ∷ []) long = absurd (omega (arith, long))
+seven_bytes (b0 ∷ b1 ∷ b2 ∷ b3 ∷ b4 ∷ []) long = absurd (omega (arith, long))
+seven_bytes (b0 ∷ b1 ∷ b2 ∷ b3 ∷ b4 ∷ b5 ∷ []) long = absurd (omega (arith, long))
+seven_bytes (b0 ∷ b1 ∷ b2 ∷ b3 ∷ b4 ∷ b5 ∷ b6 ∷ []) long = refl
+seven_bytes (b0 ∷ b1 ∷ b2 ∷ b3 ∷ b4 ∷ b5 ∷ b6 ∷ b7 ∷ b) long = absurd (omega (arith, long))
 
 -- and back
 pub from_renewed : (b : List ℕ) (r : Record) → length b ≡ 7 → get_or b 5 0 < 16 → get_or b 6 0 < 16 → renewed b ≡ record_bytes r → b ≡ old_record_bytes r
@@ -86,7 +75,10 @@ same_record h r q size well well' same =
     same_new h r q size well well' (sym (renewed_text r) ∙ ap renewed same ∙ renewed_text q)
 
 pub seven : IsSpelling version_1
-seven = record { some = omega arith; long = length-record_text; one = same_record }
+seven = record {
+  fixed = record { some = omega arith; few = omega arith; long = length-record_text };
+  one = same_record;
+}
 
 -- some bytes are a record
 pub is_old_record : (h : Header) (b : List ℕ) → IsSize h.size → ((r : Record) × IsWellFormedFor h r × (b ≡ old_record_bytes r)) ⊎ ((r : Record) → IsWellFormedFor h r → b ≢ old_record_bytes r)
@@ -103,12 +95,3 @@ is_old_record h b size = elim (cases_eq (length b) 7) [
     ]
   ]
 ]
-
--- why a batch was refused
-pub broken : (header : Header) (bytes rest : List ℕ) (now : List Record) (fault : MigrateFault) → Read version_1 seven header bytes rest now → 1 ≤ length rest → get_or rest 0 0 ≢ 0 → 2 ≤ length (past 1 rest) → bytes_of version_1 seven rest < length (behind_of rest)
-    → (fault ≡ Memory) ⊎ ((fault ≡ BadRecord) × HasOddIn version_1 header (high_of rest * 256 + low_of rest) (take (bytes_of version_1 seven rest) (behind_of rest))) → BreaksOld header fault bytes
-broken header bytes rest now fault so_far long opened long2 enough (inl memory) =
-    subst (λ (f : MigrateFault). BreaksOld header f bytes) (sym memory) tt
-broken header bytes rest now fault so_far long opened long2 enough (inr bad) =
-    subst (λ (f : MigrateFault). BreaksOld header f bytes) (sym bad.0)
-    (stumbles version_1 seven header bytes rest now (IsBadIn version_1 header) so_far (bad_record version_1 seven header rest long opened long2 enough bad.1))

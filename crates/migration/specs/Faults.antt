@@ -17,6 +17,19 @@ new_fault_of journal.Stopped = NewDevice
 new_fault_of journal.Full = Full
 new_fault_of journal.OldVersion = NewDevice
 
+-- the fault of old bytes behind their header, of which no other comes than the first three
+abbrev pub old_fault_of : JournalFault → MigrateFault
+old_fault_of journal.BadRecord = BadRecord
+old_fault_of journal.CutShort = CutShort
+old_fault_of journal.Memory = Memory
+old_fault_of journal.NotEmpty = OldDevice
+old_fault_of journal.BadHeader = OldDevice
+old_fault_of journal.OtherHeader = OldDevice
+old_fault_of journal.Device = OldDevice
+old_fault_of journal.Stopped = OldDevice
+old_fault_of journal.Full = OldDevice
+old_fault_of journal.OldVersion = OldDevice
+
 -- what reading its header alone answers
 abbrev pub IsFaultOfPeeking : MigrateFault → Type 0
 IsFaultOfPeeking NotEmpty = ⊥

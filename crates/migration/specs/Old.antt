@@ -6,7 +6,6 @@ use Rattle.statement_codec.specs.Statements.{statement_bytes}
 use Rattle.journal.specs.Texts.{Batch, Spelling, batch_records, batches_in, header_numbers, bit_byte}
 use Rattle.journal.specs.WellFormed.{IsHeader, AreBatches}
 use Rattle.journal.specs.File.{IsFrontOf, IsCutIn, IsBadIn}
-use Rattle.journal.specs.Reading.{StumblesIn}
 use Rattle.migration.specs.declared.fault.MigrateFault.{MigrateFault}
 use Rattle.migration.specs.declared.fault.MigrateFault.TheVariants.{NotEmpty, NotOld, OtherHeader, BadRecord, CutShort, OldDevice, NewDevice, Memory, Full}
 
@@ -67,18 +66,6 @@ RefusesOld header OldDevice file = ⊥
 RefusesOld header NewDevice file = ⊥
 RefusesOld header Memory file = ⊥
 RefusesOld header Full file = ⊥
-
--- why bytes behind a header were refused: by want of memory, or so
-abbrev pub BreaksOld : Header → MigrateFault → List ℕ → Type 0
-BreaksOld header NotEmpty bytes = ⊥
-BreaksOld header NotOld bytes = ⊥
-BreaksOld header OtherHeader bytes = ⊥
-BreaksOld header BadRecord bytes = StumblesIn version_1 header (IsBadIn version_1 header) bytes
-BreaksOld header CutShort bytes = StumblesIn version_1 header (IsCutIn version_1) bytes
-BreaksOld header OldDevice bytes = ⊥
-BreaksOld header NewDevice bytes = ⊥
-BreaksOld header Memory bytes = Unit {0}
-BreaksOld header Full bytes = ⊥
 
 -- a fault of what the old file holds, and not of a device or of memory
 abbrev pub IsOfOldFile : MigrateFault → Type 0

@@ -6,20 +6,20 @@ ghost use Rattle.journal.specs.WellFormed.{AreWellFormedFor};
 ghost use Rattle.journal.specs.Outcomes.{WasRead};
 ghost use Rattle.migration.specs.Old.{HasOldHeader, HoldsOld, RefusesOld, IsOfOldFile};
 ghost use Rattle.migration.specs.OldOutcomes.{HandsOldBack};
-ghost use Rattle.migration.specs.Faults.{IsFaultOfPeeking};
+ghost use Rattle.migration.specs.Faults.{IsFaultOfPeeking, old_fault_of};
 ghost use Rattle.migration.specs.declared.fault.MigrateFault.TheVariants.{Memory};
 
 use crate::MigrateFault;
 use disk::Disk;
+use journal::{JournalFault, read_batches};
 use std::alloc::Global;
 use terms::{Header, Record};
 
 mod header;
-mod read;
 mod record;
 
 use header::{HEADER, header_of};
-use read::read;
+use record::Version1;
 
 /// The header that a file of version 1 begins with, by two calls of the device: `len`, and one read
 /// of the first 24 bytes, or of all where there are fewer. It takes no memory, and changes no byte.
@@ -102,11 +102,29 @@ pub fn read_old(alloc: Global, header: &Header, bytes: &[u8]) -> Result<Vec<Reco
         return Err(MigrateFault::NotOld);
     };
     match header_of(front) {
-        Some(found) if found == *header => {
-            let records = read(alloc, header, behind)?;
-            Ok(records)
-        }
+        Some(found) if found == *header => match read_batches::<Version1>(alloc, header, behind) {
+            Ok((_, records)) => Ok(records),
+            Err(fault) => Err(old_fault(fault)),
+        },
         Some(_) => Err(MigrateFault::OtherHeader),
         None => Err(MigrateFault::NotOld),
+    }
+}
+
+/// The fault that bytes behind a header of version 1 have.
+fn old_fault(fault: JournalFault) -> MigrateFault
+    ensures { result ≡ old_fault_of fault }
+{
+    match fault {
+        JournalFault::BadRecord => MigrateFault::BadRecord,
+        JournalFault::CutShort => MigrateFault::CutShort,
+        JournalFault::Memory => MigrateFault::Memory,
+        JournalFault::NotEmpty
+        | JournalFault::BadHeader
+        | JournalFault::OtherHeader
+        | JournalFault::Device
+        | JournalFault::Stopped
+        | JournalFault::Full
+        | JournalFault::OldVersion => MigrateFault::OldDevice,
     }
 }

@@ -1,21 +1,19 @@
-use Rattle.std.proofs.Common.{inr, refl}
-use Rattle.journal.specs.Texts.{version_2}
-use Rattle.journal.proofs.Six.{six, six_of, split_six}
-use Rattle.journal.proofs.Steps.{record_added, all_added, odd_record}
+use Rattle.std.proofs.Common.{inr, refl, ◌∙◌, arith}
+use Rattle.journal.proofs.Steps.{all_added, halves, odd_record}
 use Rattle.journal.proofs.read.read_records.Goals as goal
 
-pub loop-rest-preserved : goal.loop-rest-preserved
-loop-rest-preserved c =
+pub returns-in_default-clause-refused : goal.returns-in_default-clause-refused
+returns-in_default-clause-refused g c =
     let rest = c.loop-rest.rest.now in
-    let long = c.in-len6-up.len_at_least in
-    record_added version_2 six c.args.header.now c.args.bytes.now rest (six_of rest) c.args.records.now.items c.loop-rest.records.items _ c.in-Some.record c.loop-rest.invariant (split_six rest long) c.in-Some.ensures.some.0 c.in-Some.ensures.some.1 c.in_ok-push.ensures.items
-
-pub returns-in_default-record_of-clause-refused : goal.returns-in_default-record_of-clause-refused
-returns-in_default-record_of-clause-refused c =
-    let rest = c.loop-rest.rest.now in
-    let long = c.in-len6-up.len_at_least in
-    inr (refl, odd_record version_2 six c.args.header.now c.args.bytes.now rest (six_of rest) c.args.records.now.items c.loop-rest.records.items c.args.count c.loop-rest.invariant c.requires long (split_six rest long) refl (c.in_default-record_of.ensures.none refl))
+    let front = c.split_at.result.0.now in
+    let after = c.split_at.result.1.now in
+    inr (
+      refl,
+      odd_record g.L.Layout.spelling c.width-width.ensures.each c.args.header.now c.args.bytes.now rest front after c.args.records.now.items c.loop-rest.records.items c.args.count c.loop-rest.invariant c.requires
+          (halves c.width-width.result rest front after c.split_at.ensures.front c.split_at.ensures.back) (c.split_at.ensures.front_len ∙ c.width-width.ensures.width) (c.in_default.ensures.none refl),
+    )
 
 pub returns-clause-added : goal.returns-clause-added
-returns-clause-added c =
-    all_added version_2 six c.args.header.now c.args.bytes.now c.loop-rest.rest.now c.args.records.now.items c.loop-rest.records.items c.args.count c.loop-rest.invariant c.requires c.in_default.len_below
+returns-clause-added g c =
+    all_added g.L.Layout.spelling c.width-width.ensures.each c.args.header.now c.args.bytes.now c.loop-rest.rest.now c.args.records.now.items c.loop-rest.records.items c.args.count c.loop-rest.invariant c.requires
+    (omega (arith, c.loop-rest-test.false, c.width-width.ensures.width))

@@ -2,7 +2,7 @@ use Rattle.std.proofs.Common.{◌≡◌, ⊎_elim, List, ℕ, ◌∙◌, ap, ari
 use Rattle.journal.proofs.Records.{if_some_more}
 use Rattle.migration.specs.Words.{record_bytes, old_record_bytes, IsWellFormedFor}
 use Rattle.migration.proofs.OldRecords.{renewed, renewed_text, last_small, from_renewed}
-use Rattle.migration.proofs.old.record.record_of.Goals as goal
+use Rattle.migration.proofs.old.record.Version1Layout.record_of.Goals as goal
 
 pub returns-then-step-gt15-clause-none : goal.returns-then-step-gt15-clause-none
 returns-then-step-gt15-clause-none c none r well same =
@@ -13,7 +13,7 @@ pub returns-clause-some : goal.returns-clause-some
 returns-clause-some c =
     let b : List ℕ = c.args.bytes.now in
     if_some_more (λ r. IsWellFormedFor c.args.header.now r × (renewed b ≡ record_bytes r)) (λ r. IsWellFormedFor c.args.header.now r × (b ≡ old_record_bytes r))
-    (λ r has. (has.0, from_renewed b r c.told-bytes (omega (arith, c.if-step-gt15.false)) (omega (arith, c.if-value-gt15.false)) has.1))
+    (λ r has. (has.0, from_renewed b r c.requires (omega (arith, c.if-step-gt15.false)) (omega (arith, c.if-value-gt15.false)) has.1))
     c.record_of.result c.record_of.ensures.some
 
 pub returns-clause-none : goal.returns-clause-none
