@@ -12,30 +12,44 @@ use Rattle.questions.specs.declared.answer.CoreFault.{CoreFault}
 use Rattle.questions.specs.declared.answer.CoreFault.TheVariants as cores
 use Rattle.questions.specs.Replies.{reply_with, added}
 use Rattle.questions.proofs.Adding.{added_is}
-use Rattle.member.specs.Words.{MemberFault, Stopped, Device, Memory, JournalFull, NoSuchQuestion, NoSuchMember, Member, member_fault, Stops, Kept, KeptBehind, HasSaved, IsEventBy, LivesBy, MemberIsAt, Comes, Replies, DoesStep, world_step, member_disk, member_header, member_gate, member_saved, member_is_stopped}
+use Rattle.member.specs.Words.{MemberFault, Stopped, Device, Memory, JournalFull, NoSuchQuestion, NoSuchMember, Member, member_fault, Stops, Kept, KeptBehind, HasSaved, IsEventBy, LivesBy, MemberIsAt, Comes, Replies, DoesStep, world_step, member_disk, member_header, member_gate, member_saved, member_is_stopped, reply_saved}
 
 -- the reply of that outcome, whose records were appended to the first list
 abbrev pub heard_in : List Record → List Record → Heard → Reply
 heard_in before after heard = reply_with heard (added before after)
 
--- what was appended is what is behind the first so many
-pub behind_is : (first all : List Record) (before : ℕ) (heard : Heard) → before ≡ length first → all ≡ first ++ records_of (heard_in first all heard)
-    → drop before all ≡ records_of (heard_in first all heard)
-behind_is first all before heard count appends = ap (λ (n : ℕ). drop n all) count ∙ added_is first (records_of (heard_in first all heard)) all appends
+-- The core answered into the member's list, which had so many records: those of its reply are behind them now, or with a
+-- fault none, and one that isn't of memory left the list alone.
+pub record HeardInto {D : Type 0} (old : Member D) (all : Vec Record) (before : ℕ) (heard : Result Heard CoreFault) : Type 0 where
+  pub count : before ≡ length old.records.items
+  pub appends : IfOk heard (λ h. all.items ≡ old.records.items ++ records_of (heard_in old.records.items all.items h))
+  pub same : OnErr heard (all.items ≡ old.records.items)
+  pub untouched : IfErr heard (λ e. e ≢ cores.Memory → all ≡ old.records)
 
-pub front_is : (first all : List Record) (before : ℕ) (heard : Result Heard CoreFault) → before ≡ length first
-    → IfOk heard (λ h. all ≡ first ++ records_of (heard_in first all h)) → OnErr heard (all ≡ first) → take before all ≡ first
-front_is first all before (Ok h) count appends same =
-    ap (λ (n : ℕ). take n all) count ∙ ap (λ (l : List Record). take (length first) l) appends ∙ take-append_seam first (records_of (heard_in first all h))
-front_is first all before (Err e) count appends same = ap (λ (n : ℕ). take n all) count ∙ ap (λ (l : List Record). take (length first) l) same ∙ take-length first
+-- what was appended is what is behind the first so many
+behind_is : (first all : List Record) (before : ℕ) (heard : Heard) → before ≡ length first → all ≡ first ++ records_of (heard_in first all heard)
+    → drop before all ≡ records_of (heard_in first all heard)
+behind_is first all before heard count appends =
+    ap (λ (n : ℕ). drop n all) count ∙ added_is first (records_of (heard_in first all heard)) all appends
+
+front_is : {D : Type 0} {old : Member D} {all : Vec Record} {before : ℕ} {heard : Result Heard CoreFault} → HeardInto old all before heard
+    → take before all.items ≡ old.records.items
+front_is {D} {old} {all} {before} {heard} into = ap (λ (n : ℕ). take n all.items) into.count ∙ go heard into.appends into.same
+  where
+    go : (h : Result Heard CoreFault) → IfOk h (λ x. all.items ≡ old.records.items ++ records_of (heard_in old.records.items all.items x))
+        → OnErr h (all.items ≡ old.records.items) → take (length old.records.items) all.items ≡ old.records.items
+    go (Ok h) appends same =
+        ap (λ (l : List Record). take (length old.records.items) l) appends
+        ∙ take-append_seam old.records.items (records_of (heard_in old.records.items all.items h))
+    go (Err e) appends same = ap (λ (l : List Record). take (length old.records.items) l) same ∙ take-length old.records.items
 
 -- its records are well formed
-pub formed_behind : (header : Header) (first all : List Record) (before : ℕ) (heard : Result Heard CoreFault) → before ≡ length first
-    → IfOk heard (λ h. all ≡ first ++ records_of (heard_in first all h)) → IfOk heard (λ h. AreWellFormedFor header (records_of (heard_in first all h)))
-    → OnOk heard (AreWellFormedFor header (drop before all))
-formed_behind header first all before (Err e) count appends formed = tt
-formed_behind header first all before (Ok h) count appends formed =
-    subst (λ (l : List Record). AreWellFormedFor header l) (sym (behind_is first all before h count appends)) formed
+pub formed_behind : {D : Type 0} {old : Member D} {all : Vec Record} {before : ℕ} {heard : Result Heard CoreFault} (header : Header)
+    → HeardInto old all before heard → IfOk heard (λ h. AreWellFormedFor header (records_of (heard_in old.records.items all.items h)))
+    → OnOk heard (AreWellFormedFor header (drop before all.items))
+formed_behind {heard = Err e} header into formed = tt
+formed_behind {old = old} {all = all} {before = before} {heard = Ok h} header into formed =
+    subst (λ (l : List Record). AreWellFormedFor header l) (sym (behind_is old.records.items all.items before h into.count into.appends)) formed
 
 -- a fault that doesn't stop the member leaves its list
 untouched_by : {D : Type 0} (old : Member D) (all : Vec Record) (heard : Result Heard CoreFault) (result : Result Heard MemberFault)
@@ -55,18 +69,17 @@ unchanged_by old core all new (Ok h) left changed = tt
 unchanged_by old core all new (Err f) left changed = λ goes_on. changed goes_on ∙ (λ i. record old { core = core; records = left goes_on i })
 
 -- what was kept of what a core answered into the member's list
-pub kept_into : {D : Type 0} (disk : DiskGhosts D) (old : Member D) (core : Core) (all : Vec Record) (before : ℕ) (heard : Result Heard CoreFault) (result : Result Heard MemberFault) (new : Member D)
-    → before ≡ length old.records.items → IfOk heard (λ h. all.items ≡ old.records.items ++ records_of (heard_in old.records.items all.items h))
-    → OnErr heard (all.items ≡ old.records.items) → IfErr heard (λ e. e ≢ cores.Memory → all ≡ old.records)
+pub kept_into : {D : Type 0} {disk : DiskGhosts D} {old : Member D} {core : Core} {all : Vec Record} {before : ℕ} {heard : Result Heard CoreFault}
+    {result : Result Heard MemberFault} {new : Member D} → HeardInto old all before heard
     → KeptBehind disk (take before all.items) (record old { core = core; records = all }) core (λ h. reply_with h (drop before all.items)) heard result new
     → Kept disk old core (heard_in old.records.items all.items) heard result new
 unfolding member_disk member_header member_gate member_saved member_is_stopped
-kept_into disk old core all before heard result new count appends same left kept =
-    let counted : KeptBehind disk (take before all.items) (record old { core = core; records = all }) core (heard_in old.records.items all.items) heard result new =
-    subst (λ (n : ℕ). KeptBehind disk (take before all.items) (record old { core = core; records = all }) core (λ h. reply_with h (drop n all.items)) heard result new) count kept in
-    let k : KeptBehind disk old.records.items (record old { core = core; records = all }) core (heard_in old.records.items all.items) heard result new =
-    subst (λ (l : List Record). KeptBehind disk l (record old { core = core; records = all }) core (heard_in old.records.items all.items) heard result new)
-    (front_is old.records.items all.items before heard count appends same) counted in
+kept_into {D} {disk} {old} {core} {all} {before} {heard} {result} {new} into kept =
+    let mid : Member D = record old { core = core; records = all } in
+    let counted : KeptBehind disk (take before all.items) mid core (heard_in old.records.items all.items) heard result new =
+    subst (λ (n : ℕ). KeptBehind disk (take before all.items) mid core (λ h. reply_with h (drop n all.items)) heard result new) into.count kept in
+    let k : KeptBehind disk old.records.items mid core (heard_in old.records.items all.items) heard result new =
+    subst (λ (l : List Record). KeptBehind disk l mid core (heard_in old.records.items all.items) heard result new) (front_is into) counted in
     record {
       filed = k.filed;
       answer_is = k.answer_is;
@@ -79,7 +92,7 @@ kept_into disk old core all before heard result new count appends same left kept
       refused = k.refused;
       told_is = k.told_is;
       stopping = k.stopping;
-      unchanged = unchanged_by old core all new result (untouched_by old all heard result left k.told_is k.stopping) k.unchanged;
+      unchanged = unchanged_by old core all new result (untouched_by old all heard result into.untouched k.told_is k.stopping) k.unchanged;
       stops = k.stops;
       same_disk = k.same_disk;
       memory = k.memory;
@@ -92,20 +105,26 @@ kept_into disk old core all before heard result new count appends same left kept
       kept = k.kept;
     }
 
--- the list is the member's own in the end
-pub same_reply : (first all now : List Record) (heard : Result Heard CoreFault) (result : Result Heard MemberFault)
-    → IfOk heard (λ h. all ≡ first ++ records_of (heard_in first all h)) → IfOk result (λ h. heard ≡ Ok h)
-    → IfOk result (λ h. now ≡ first ++ records_of (heard_in first all h)) → IfOk result (λ h. heard_in first all h ≡ heard_in first now h)
-same_reply first all now heard (Err f) appends is saved = tt
-same_reply first all now heard (Ok h) appends is saved =
-    let here : all ≡ first ++ records_of (heard_in first all h) =
-    subst (λ (o : Result Heard CoreFault). IfOk o (λ h. all ≡ first ++ records_of (heard_in first all h))) is appends in
-    ap (λ (l : List Record). heard_in first l h) (here ∙ sym saved)
-
 -- a reply by another name
-pub reply_as : {A : Type 0} (result : Result A MemberFault) (P : Reply → Type 0) (f g : A → Reply) → IfOk result (λ a. f a ≡ g a) → IfOk result (λ a. P (f a)) → IfOk result (λ a. P (g a))
-reply_as (Err e) P f g same holds = tt
-reply_as (Ok a) P f g same holds = subst P same holds
+pub record IsNamed {A : Type 0} (result : Result A MemberFault) (f g : A → Reply) : Type 0 where
+  pub same : IfOk result (λ a. f a ≡ g a)
+
+-- the list is the member's own in the end
+pub same_reply : {D : Type 0} {disk : DiskGhosts D} {old : Member D} {core : Core} {all : Vec Record} {before : ℕ} {heard : Result Heard CoreFault}
+    {result : Result Heard MemberFault} {new : Member D} → HeardInto old all before heard
+    → Kept disk old core (heard_in old.records.items all.items) heard result new → IsNamed result (heard_in old.records.items all.items) (reply_saved old new)
+unfolding member_saved
+same_reply {result = Err f} into kept = record { same = tt }
+same_reply {old = old} {all = all} {heard = heard} {result = Ok h} {new = new} into kept =
+    let here : all.items ≡ old.records.items ++ records_of (heard_in old.records.items all.items h) =
+    subst (λ (o : Result Heard CoreFault). IfOk o (λ x. all.items ≡ old.records.items ++ records_of (heard_in old.records.items all.items x)))
+    kept.answer_is into.appends in
+    record { same = ap (λ (l : List Record). heard_in old.records.items l h) (here ∙ sym kept.saved) }
+
+pub reply_as : {A : Type 0} {result : Result A MemberFault} {f g : A → Reply} (P : Reply → Type 0) → IsNamed result f g
+    → IfOk result (λ a. P (f a)) → IfOk result (λ a. P (g a))
+reply_as {result = Err e} P named holds = tt
+reply_as {result = Ok a} P named holds = subst P named.same holds
 
 lives_as : {A D : Type 0} (disk : DiskGhosts D) (header : Header) (liars : ℕ → Bool) (w : World) (toss : ℕ) (event : Event) (result : Result A MemberFault) (old new : Member D) (f g : A → Reply)
     → IfOk result (λ a. f a ≡ g a) → LivesBy f disk header liars w toss event result old new → LivesBy g disk header liars w toss event result old new
@@ -118,9 +137,9 @@ lives_as disk header liars w toss event (Err Stopped) old new f g same lives = l
 lives_as disk header liars w toss event (Err NoSuchQuestion) old new f g same lives = lives
 lives_as disk header liars w toss event (Err NoSuchMember) old new f g same lives = lives
 
-pub event_as : {A D : Type 0} (disk : DiskGhosts D) (toss : ℕ) (event : Event) (result : Result A MemberFault) (old new : Member D) (f g : A → Reply)
-    → IfOk result (λ a. f a ≡ g a) → IsEventBy f disk toss event old result new → IsEventBy g disk toss event old result new
-event_as disk toss event result old new f g same e = record {
-  life = λ header liars w correct at comes. lives_as disk header liars w toss event result old new f g same (e.life header liars w correct at comes);
+pub event_as : {A D : Type 0} {disk : DiskGhosts D} {toss : ℕ} {event : Event} {result : Result A MemberFault} {old new : Member D} {f g : A → Reply}
+    → IsNamed result f g → IsEventBy f disk toss event old result new → IsEventBy g disk toss event old result new
+event_as {disk = disk} {toss = toss} {event = event} {result = result} {old = old} {new = new} {f = f} {g = g} named e = record {
+  life = λ header liars w correct at comes. lives_as disk header liars w toss event result old new f g named.same (e.life header liars w correct at comes);
   cut = e.cut;
 }
