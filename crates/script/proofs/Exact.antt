@@ -1,5 +1,5 @@
 -- What words, lines and texts say, they say in one way.
-use Rattle.std.proofs.Common.{ℕ, ◌≡◌, ◌+◌, ◌*◌, ◌<◌, refl, sym, ap, ◌∙◌, subst, arith, true, false, cond, eqb, Option, Some, None, List, [], ◌∷◌, length, get_or, codes}
+use Rattle.std.proofs.Common.{ℕ, ◌≡◌, ◌+◌, ◌*◌, ◌<◌, refl, sym, ap, ◌∙◌, subst, arith, true, false, cond, eqb, Some, None, List, [], ◌∷◌, length, get_or, codes}
 use Rattle.disk.specs.declared.Pick.TheVariants.{Kept, Lost, Fill}
 use Rattle.sim.specs.declared.events.Which.TheVariants.{Next, At}
 use Rattle.script.specs.Words.{Verb, IsMember, IsCount, IsLong, IsGroupSize, IsBit, IsWhich, IsFuse, ArePick, AreMembers, ScriptStep, verb_name, One, Two, Three, SaysBehind, SaysStep}
@@ -136,22 +136,26 @@ one_behind verb.Fair ws s t (m, h, e) (n, g, f) = let k = one_one IsLong (one_be
 key : List ℕ → ℕ
 key w = length w * 65536 + get_or w 0 0 * 256 + get_or w 1 0
 
-verb_with : ℕ → Option Verb
+verb_with : ℕ → Verb
 verb_with k =
-    cond (eqb k (7 * 65536 + 112 * 256 + 114)) (Some verb.Propose)
-    (cond (eqb k (7 * 65536 + 100 * 256 + 101)) (Some verb.Deliver)
-    (cond (eqb k (5 * 65536 + 103 * 256 + 114)) (Some verb.Group)
-    (cond (eqb k (3 * 65536 + 108 * 256 + 105)) (Some verb.Lie)
-    (cond (eqb k (4 * 65536 + 102 * 256 + 117)) (Some verb.Fuse)
-    (cond (eqb k (5 * 65536 + 99 * 256 + 114)) (Some verb.Crash)
-    (cond (eqb k (7 * 65536 + 114 * 256 + 101)) (Some verb.Restart)
-    (cond (eqb k (5 * 65536 + 114 * 256 + 101)) (Some verb.Reset)
-    (cond (eqb k (6 * 65536 + 114 * 256 + 111)) (Some verb.Rounds)
-    (cond (eqb k (6 * 65536 + 114 * 256 + 97)) (Some verb.Random)
-    (Some verb.Fair))))))))))
+    cond (eqb k (7 * 65536 + 112 * 256 + 114)) verb.Propose
+    (cond (eqb k (7 * 65536 + 100 * 256 + 101)) verb.Deliver
+    (cond (eqb k (5 * 65536 + 103 * 256 + 114)) verb.Group
+    (cond (eqb k (3 * 65536 + 108 * 256 + 105)) verb.Lie
+    (cond (eqb k (4 * 65536 + 102 * 256 + 117)) verb.Fuse
+    (cond (eqb k (5 * 65536 + 99 * 256 + 114)) verb.Crash
+    (cond (eqb k (7 * 65536 + 114 * 256 + 101)) verb.Restart
+    (cond (eqb k (5 * 65536 + 114 * 256 + 101)) verb.Reset
+    (cond (eqb k (6 * 65536 + 114 * 256 + 111)) verb.Rounds
+    (cond (eqb k (6 * 65536 + 114 * 256 + 97)) verb.Random
+    verb.Fair)))))))))
 
-of_name : (v : Verb) → verb_with (key (verb_name v)) ≡ Some v
-unfolding verb_with key
+-- the verb that a word names, if it names one
+pub verb_of : List ℕ → Verb
+verb_of w = verb_with (key w)
+
+pub of_name : (v : Verb) → verb_of (verb_name v) ≡ v
+unfolding verb_of verb_with key
 of_name verb.Propose = refl
 of_name verb.Deliver = refl
 of_name verb.Group = refl
@@ -164,10 +168,9 @@ of_name verb.Rounds = refl
 of_name verb.Random = refl
 of_name verb.Fair = refl
 
+-- no two verbs have one name
 pub one_verb : (v w : Verb) → verb_name v ≡ verb_name w → v ≡ w
-one_verb v w e =
-    let f : ◌≡◌ {A = Option Verb} (Some v) (Some w) = sym (of_name v) ∙ (ap (λ (n : List ℕ). verb_with (key n)) e ∙ of_name w) in
-    cc
+one_verb v w e = sym (of_name v) ∙ (ap verb_of e ∙ of_name w)
 
 pub one_step : IsExact SaysStep
 one_step ws s t h g =

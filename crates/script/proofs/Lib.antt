@@ -9,6 +9,7 @@ pub mod Fronts
 pub mod Sources
 pub mod Exact
 pub mod Determined
+pub mod Deciding
 pub mod Total
 pub mod Troubles
 pub mod Once

@@ -1,83 +1,54 @@
 -- Each text says something or has a first fault.
-use Rattle.std.proofs.Common.{ℕ, zero, suc, ◌≡◌, ◌^◌, ◌<◌, ◌≤◌, refl, sym, ap, ◌∙◌, subst, rules, arith, inl, inr, ◌⊎◌, Bool, true, false, eqb, eq-eqb, nat_lt, Option, Some, None, Result, Ok, Err, List, [], ◌∷◌, length, drop, codes, slice_get, eqb-true, tests}
+use Rattle.std.proofs.Common.{ℕ, zero, suc, ◌≡◌, ◌^◌, ◌<◌, ◌≤◌, refl, sym, ap, ◌∙◌, subst, arith, inl, inr, ◌⊎◌, Bool, true, false, Option}
+use Rattle.std.proofs.Common.{Some, None, Result, Ok, Err, List, [], ◌∷◌, length, drop, codes, slice_get}
 use Rattle.std.specs.Str.Parse.{AllDigits, digits_value}
 use Rattle.std.specs.Char.{digit_value}
 use Rattle.hex.specs.Hex.{decode_of}
 use Rattle.hex.specs.declared.error.FromHexError.{FromHexError}
-use Rattle.terms_prelude.specs.Terms.{Size, SizeFault, new_size, size_fault}
-use Rattle.disk.specs.declared.Pick.{Pick}
+use Rattle.terms_prelude.specs.Terms.{Size, new_size, size_fault, SizeFault}
 use Rattle.disk.specs.declared.Pick.TheVariants.{Kept, Lost, Fill}
-use Rattle.sim.specs.declared.events.Which.{Which}
 use Rattle.sim.specs.declared.events.Which.TheVariants.{Next, At}
-use Rattle.script.specs.Words.{ScriptFault, Verb, words_of, IsMember, IsCount, IsLong, IsGroupSize, IsBit, IsWhich, IsFuse, ArePick, AreMembers, Page, page_from, HasLine, line_number, TossedAct, Propose, Deliver, DeliverAll, Lie, Fuse, Crash, Restart, Reset, ScriptStep, verb_name, One, Two, Three, SaysBehind, SaysStep, Once, Rounds, Random, Fair, fresh, Made, after_step, correct_below, LeadTo, BreakBy, IsNumberNamed, AreListedLiars, IsSeed, MakeSize, SaysCluster, at_start, LacksLine, IsFirstFault}
+use Rattle.script.specs.Words.{ScriptFault, Verb, words_of, IsMember, IsLong, IsGroupSize, IsBit, IsWhich, IsFuse, ArePick, AreMembers}
+use Rattle.script.specs.Words.{Page, page_from, HasLine, line_number, TossedAct, Propose, Deliver, DeliverAll, Lie, Fuse, Crash, Restart}
+use Rattle.script.specs.Words.{Reset, ScriptStep, verb_name, One, Two, Three, SaysBehind, SaysStep, Once, Rounds, Random, Fair, fresh, Made}
+use Rattle.script.specs.Words.{after_step, correct_below, LeadTo, BreakBy, AreListedLiars, MakeSize, IsHead, SaysCluster, at_start, FailsOr}
+use Rattle.script.specs.Words.{SizeFailsOr, IsFirstFault}
 use Rattle.script.specs.declared.fault.ScriptFault.TheVariants as faults
 use Rattle.script.specs.declared.step.Verb.TheVariants as verb
 use Rattle.sim.specs.declared.TheConstants.{MOST_EVENTS}
 use Rattle.numerals.specs.Numbers.{IsNumber, IsBelow, IsHexOf}
-use Rattle.script.proofs.Exact.{one_number, one_bytes, one_verb}
+use Rattle.script.proofs.Deciding.{TrueOrNot, FoundOrNot, Decides, carry, both, also, and, same_text, same_words, less_or, less}
+use Rattle.script.proofs.Deciding.FoundOrNot.{Found, NotFound}
+use Rattle.script.proofs.Exact.{one_number, one_bytes, one_verb, verb_of, of_name}
 
--- a form that a thing has, or has not
-abbrev pub Decides : {A B : Type 0} → (A → B → Type 0) → Type 0
-Decides {A} {B} Form = (a : A) → ((x : B) × Form a x) ⊎ ((x : B) → Form a x → ⊥)
-
-same_list : (a b : List ℕ) → (a ≡ b) ⊎ (a ≡ b → ⊥)
-same_list [] [] = inl refl
-same_list [] (y ∷ ys) = inr (λ e. cc)
-same_list (x ∷ xs) [] = inr (λ e. cc)
-same_list (x ∷ xs) (y ∷ ys) = step (eqb x y) refl (same_list xs ys)
-  where
-    step : (t : Bool) → eqb x y ≡ t → (xs ≡ ys) ⊎ (xs ≡ ys → ⊥) → (x ∷ xs ≡ y ∷ ys) ⊎ (x ∷ xs ≡ y ∷ ys → ⊥)
-    step true e (inl f) = let g : x ≡ y = eqb-true x y e in inl cc
-    step true e (inr isnt) = inr (λ f. let g : xs ≡ ys = cc in isnt g)
-    step false e r = inr (λ f. let g : x ≡ y = cc in let h : eqb x y ≡ true = eq-eqb x y g in cc)
-
-pub less_or : (a b : ℕ) → (a < b) ⊎ (b ≤ a)
-less_or a b = step (nat_lt a b) refl
-  where
-    step : (t : Bool) → nat_lt a b ≡ t → (a < b) ⊎ (b ≤ a)
-    step true e = inl (search (rules, tests, e))
-    step false e = inr (search (rules, tests, e))
-
-digits : (ds : List ℕ) → AllDigits 10 ds ⊎ (AllDigits 10 ds → ⊥)
+-- characters are all decimal digits, or not
+digits : (ds : List ℕ) → TrueOrNot (AllDigits 10 ds)
 digits [] = inl tt
-digits (c ∷ cs) = step (less_or (digit_value c) 10) (digits cs)
-  where
-    step : (digit_value c < 10) ⊎ (10 ≤ digit_value c) → AllDigits 10 cs ⊎ (AllDigits 10 cs → ⊥) → AllDigits 10 (c ∷ cs) ⊎ (AllDigits 10 (c ∷ cs) → ⊥)
-    step (inl h) (inl g) = inl (h, g)
-    step (inl h) (inr isnt) = inr (λ a. isnt a.1)
-    step (inr h) r = inr (λ a. let b = a.0 in absurd (omega arith))
+digits (c ∷ cs) = and (less (digit_value c) 10) (digits cs)
 
+-- a word writes a number, or none
 number : Decides IsNumber
-number [] = inr (λ n h. let l = h.digits_are.0 in absurd (omega arith))
+number [] = NotFound (λ n h. let l = h.digits_are.0 in absurd (omega arith))
 number (c ∷ cs) = step (digits (c ∷ cs))
   where
-    step : AllDigits 10 (c ∷ cs) ⊎ (AllDigits 10 (c ∷ cs) → ⊥) → ((n : ℕ) × IsNumber (c ∷ cs) n) ⊎ ((n : ℕ) → IsNumber (c ∷ cs) n → ⊥)
-    step (inl h) = inl (digits_value 10 (c ∷ cs), record { digits_are = (omega arith, h); value = refl })
-    step (inr isnt) = inr (λ n h. isnt h.digits_are.1)
+    step : TrueOrNot (AllDigits 10 (c ∷ cs)) → FoundOrNot (IsNumber (c ∷ cs))
+    step (inl h) = Found (digits_value 10 (c ∷ cs)) (record { digits_are = (omega arith, h); value = refl })
+    step (inr isnt) = NotFound (λ n h. isnt h.digits_are.1)
 
+-- a word writes a number below a power of two, or none
 below : (bits : ℕ) → Decides (IsBelow bits)
-below bits w = step (number w)
-  where
-    small : (n : ℕ) → IsNumber w n → (n < 2 ^ bits) ⊎ (2 ^ bits ≤ n) → ((x : ℕ) × IsBelow bits w x) ⊎ ((x : ℕ) → IsBelow bits w x → ⊥)
-    small n h (inl l) = inl (n, record { number_is = h; below = l })
-    small n h (inr g) = inr (λ x k. let e = one_number w x n k.number_is h in let l = k.below in absurd (omega arith))
+below bits w =
+    carry (also (one_number w) (number w) (λ n. less n (2 ^ bits)))
+    (λ n h. (n, record { number_is = h.0; below = h.1 })) (λ n h. (n, (h.number_is, h.below)))
 
-    step : ((n : ℕ) × IsNumber w n) ⊎ ((n : ℕ) → IsNumber w n → ⊥) → ((x : ℕ) × IsBelow bits w x) ⊎ ((x : ℕ) → IsBelow bits w x → ⊥)
-    step (inl (n, h)) = small n h (less_or n (2 ^ bits))
-    step (inr isnt) = inr (λ x h. isnt x h.number_is)
-
+-- a word says how many statements a group has, or it doesn't
 group_size : Decides IsGroupSize
-group_size w = step (number w)
-  where
-    within : (n : ℕ) → IsNumber w n → (n < 1) ⊎ (1 ≤ n) → (n < 257) ⊎ (257 ≤ n) → ((k : ℕ) × IsGroupSize w k) ⊎ ((k : ℕ) → IsGroupSize w k → ⊥)
-    within n h (inl l) r = inr (λ k g. let e = one_number w k n g.number_is h in let s = g.some in absurd (omega arith))
-    within n h (inr s) (inl l) = inl (n, record { number_is = h; some = s; few = omega (arith, l) })
-    within n h (inr s) (inr m) = inr (λ k g. let e = one_number w k n g.number_is h in let f = g.few in absurd (omega arith))
+group_size w =
+    carry (also (one_number w) (number w) (λ n. and (less 0 n) (less n 257)))
+    (λ n h. (n, record { number_is = h.0; some = omega arith; few = omega arith }))
+    (λ n h. (n, (h.number_is, (omega arith, omega arith))))
 
-    step : ((n : ℕ) × IsNumber w n) ⊎ ((n : ℕ) → IsNumber w n → ⊥) → ((k : ℕ) × IsGroupSize w k) ⊎ ((k : ℕ) → IsGroupSize w k → ⊥)
-    step (inl (n, h)) = within n h (less_or n 1) (less_or n 257)
-    step (inr isnt) = inr (λ k h. isnt k h.number_is)
-
+-- a word writes a bit, or none
 bit : Decides IsBit
 bit w = step (number w)
   where
@@ -85,429 +56,300 @@ bit w = step (number w)
     many k h false g = let e = one_number w 0 (suc (suc k)) g h in absurd (omega arith)
     many k h true g = let e = one_number w 1 (suc (suc k)) g h in absurd (omega arith)
 
-    step : ((n : ℕ) × IsNumber w n) ⊎ ((n : ℕ) → IsNumber w n → ⊥) → ((b : Bool) × IsBit w b) ⊎ ((b : Bool) → IsBit w b → ⊥)
-    step (inl (zero, h)) = inl (false, h)
-    step (inl (suc zero, h)) = inl (true, h)
-    step (inl (suc (suc k), h)) = inr (many k h)
-    step (inr isnt) = inr (λ b h. isnt _ h)
+    step : FoundOrNot (IsNumber w) → FoundOrNot (IsBit w)
+    step (Found zero h) = Found false h
+    step (Found (suc zero) h) = Found true h
+    step (Found (suc (suc k)) h) = NotFound (many k h)
+    step (NotFound isnt) = NotFound (λ b h. isnt _ h)
 
+-- a word says which statement, or none
 which : Decides IsWhich
-which w = step (same_list w (codes "next")) (below 64 w)
+which w = step (same_text w (codes "next")) (below 64 w)
   where
-    none : (w ≡ codes "next" → ⊥) → ((k : ℕ) → IsLong w k → ⊥) → (x : Which) → IsWhich w x → ⊥
-    none a b Next h = a h
-    none a b (At k) h = b k h
+    step : TrueOrNot (w ≡ codes "next") → FoundOrNot (IsLong w) → FoundOrNot (IsWhich w)
+    step (inl e) r = Found Next e
+    step (inr a) (Found k h) = Found (At k) h
+    step (inr a) (NotFound b) = NotFound (elim [ Next ↦ a | At k ↦ b k ])
 
-    step : (w ≡ codes "next") ⊎ (w ≡ codes "next" → ⊥) → ((k : ℕ) × IsLong w k) ⊎ ((k : ℕ) → IsLong w k → ⊥)
-        → ((x : Which) × IsWhich w x) ⊎ ((x : Which) → IsWhich w x → ⊥)
-    step (inl e) r = inl (Next, e)
-    step (inr a) (inl (k, h)) = inl (At k, h)
-    step (inr a) (inr b) = inr (none a b)
-
+-- a word says how many calls, or it doesn't
 fuse : Decides IsFuse
-fuse w = step (same_list w (codes "off")) (below 64 w)
+fuse w = step (same_text w (codes "off")) (below 64 w)
   where
-    none : (w ≡ codes "off" → ⊥) → ((k : ℕ) → IsLong w k → ⊥) → (x : Option ℕ) → IsFuse w x → ⊥
-    none a b None h = a h
-    none a b (Some k) h = b k h
+    step : TrueOrNot (w ≡ codes "off") → FoundOrNot (IsLong w) → FoundOrNot (IsFuse w)
+    step (inl e) r = Found None e
+    step (inr a) (Found k h) = Found (Some k) h
+    step (inr a) (NotFound b) = NotFound (elim [ None ↦ a | Some k ↦ b k ])
 
-    step : (w ≡ codes "off") ⊎ (w ≡ codes "off" → ⊥) → ((k : ℕ) × IsLong w k) ⊎ ((k : ℕ) → IsLong w k → ⊥)
-        → ((x : Option ℕ) × IsFuse w x) ⊎ ((x : Option ℕ) → IsFuse w x → ⊥)
-    step (inl e) r = inl (None, e)
-    step (inr a) (inl (k, h)) = inl (Some k, h)
-    step (inr a) (inr b) = inr (none a b)
-
-pub bytes : Decides IsHexOf
+-- a word writes bytes in hexadecimal digits, or none
+bytes : Decides IsHexOf
 bytes w = step (decode_of w) refl
   where
-    step : (r : Result (List ℕ) FromHexError) → decode_of w ≡ r → ((x : List ℕ) × IsHexOf w x) ⊎ ((x : List ℕ) → IsHexOf w x → ⊥)
-    step (Ok []) e = inr (λ x h.
-        let d = h.decoded in
-        let f : ◌≡◌ {A = Result (List ℕ) FromHexError} (Ok []) (Ok x) = sym e ∙ d in
+    step : (r : Result (List ℕ) FromHexError) → decode_of w ≡ r → FoundOrNot (IsHexOf w)
+    step (Ok []) e = NotFound (λ x h.
+        let f : ◌≡◌ {A = Result (List ℕ) FromHexError} (Ok []) (Ok x) = sym e ∙ h.decoded in
         let g : [] ≡ x = cc in
         let l : 0 < length {A = ℕ} [] = subst (λ (y : List ℕ). 0 < length y) (sym g) h.some in
         absurd (omega arith))
-    step (Ok (b ∷ bs)) e = inl (b ∷ bs, record { decoded = e; some = omega arith })
-    step (Err x) e = inr (λ y h. let d = h.decoded in let f : ◌≡◌ {A = Result (List ℕ) FromHexError} (Err x) (Ok y) = sym e ∙ d in cc)
+    step (Ok (b ∷ bs)) e = Found (b ∷ bs) (record { decoded = e; some = omega arith })
+    step (Err x) e = NotFound (λ y h. let f : ◌≡◌ {A = Result (List ℕ) FromHexError} (Err x) (Ok y) = sym e ∙ h.decoded in cc)
 
+-- a word writes one byte so
+abbrev IsByte : List ℕ → ℕ → Type 0
+IsByte digits byte = IsHexOf digits (byte ∷ [])
+
+-- or it doesn't
+byte : Decides IsByte
+byte w = step (bytes w)
+  where
+    step : FoundOrNot (IsHexOf w) → FoundOrNot (IsByte w)
+    step (Found [] h) = let l = h.some in absurd (omega arith)
+    step (Found (x ∷ []) h) = Found x h
+    step (Found (x ∷ y ∷ xs) h) = NotFound (λ b g. let e : x ∷ y ∷ xs ≡ b ∷ [] = one_bytes w (x ∷ y ∷ xs) (b ∷ []) h g in cc)
+    step (NotFound isnt) = NotFound (λ b g. isnt (b ∷ []) g)
+
+-- words write members, one a word, or they don't
 members : Decides AreMembers
-members [] = inl ([], tt)
-members (w ∷ ws) = step (below 8 w) (members ws)
+members [] = Found [] tt
+members (w ∷ ws) = carry (both (below 8 w) (members ws)) (λ x h. (x.0 ∷ x.1, h)) back
   where
-    none : ((x : ℕ) → IsMember w x → ⊥) → (ms : List ℕ) → AreMembers (w ∷ ws) ms → ⊥
-    none a [] h = h
-    none a (m ∷ ms) h = a m h.0
+    back : (ms : List ℕ) → AreMembers (w ∷ ws) ms → (x : ℕ × List ℕ) × (IsMember w x.0 × AreMembers ws x.1)
+    back [] h = absurd h
+    back (m ∷ ms) h = ((m, ms), h)
 
-    later : ((ms : List ℕ) → AreMembers ws ms → ⊥) → (ms : List ℕ) → AreMembers (w ∷ ws) ms → ⊥
-    later a [] h = h
-    later a (m ∷ ms) h = a ms h.1
+-- One word says a step, or none. Here and below a step is made of what the words say, each of its own form.
+one : {A : Type 0} {F : List ℕ → A → Type 0} (step : A → ScriptStep) → Decides F
+    → Decides (λ (words : List (List ℕ)) (s : ScriptStep). (a : A) × One F words a × (s ≡ step a))
+one step f [] = NotFound (λ s (a, h, e). let i = h.words_are in cc)
+one step f (w ∷ v ∷ ws) = NotFound (λ s (a, h, e). let i = h.words_are in cc)
+one {A} {F} step f (w ∷ []) =
+    carry (f w) (λ a h. (step a, (a, record { first = w; words_are = refl; first_is = h }, refl)))
+    (λ s (a, h, e). let i = h.words_are in let j : h.first ≡ w = cc in (a, subst (λ (z : List ℕ). F z a) j h.first_is))
 
-    step : ((x : ℕ) × IsMember w x) ⊎ ((x : ℕ) → IsMember w x → ⊥) → ((ms : List ℕ) × AreMembers ws ms) ⊎ ((ms : List ℕ) → AreMembers ws ms → ⊥)
-        → ((ms : List ℕ) × AreMembers (w ∷ ws) ms) ⊎ ((ms : List ℕ) → AreMembers (w ∷ ws) ms → ⊥)
-    step (inl (x, h)) (inl (xs, g)) = inl (x ∷ xs, (h, g))
-    step (inl h) (inr isnt) = inr (later isnt)
-    step (inr isnt) r = inr (none isnt)
+-- two words do
+two : {A B : Type 0} {F : List ℕ → A → Type 0} {G : List ℕ → B → Type 0} (step : A → B → ScriptStep) → Decides F → Decides G
+    → Decides (λ (words : List (List ℕ)) (s : ScriptStep). (a : A) × (b : B) × Two F G words a b × (s ≡ step a b))
+two step f g [] = NotFound (λ s (a, b, h, e). let i = h.words_are in cc)
+two step f g (w ∷ []) = NotFound (λ s (a, b, h, e). let i = h.words_are in cc)
+two step f g (w ∷ v ∷ u ∷ ws) = NotFound (λ s (a, b, h, e). let i = h.words_are in cc)
+two {A} {B} {F} {G} step f g (w ∷ v ∷ []) =
+    carry (both (f w) (g v))
+    (λ (a, b) (h, k). (step a b, (a, b, record { first = w; second = v; words_are = refl; first_is = h; second_is = k }, refl)))
+    (λ s (a, b, h, e).
+    let i = h.words_are in
+    let j : h.first ≡ w = cc in
+    let k : h.second ≡ v = cc in
+    ((a, b), (subst (λ (z : List ℕ). F z a) j h.first_is, subst (λ (z : List ℕ). G z b) k h.second_is)))
 
+-- three words do
+three : {A B C : Type 0} {F : List ℕ → A → Type 0} {G : List ℕ → B → Type 0} {H : List ℕ → C → Type 0} (step : A → B → C → ScriptStep)
+    → Decides F → Decides G → Decides H
+    → Decides (λ (words : List (List ℕ)) (s : ScriptStep). (a : A) × (b : B) × (c : C) × Three F G H words a b c × (s ≡ step a b c))
+three step f g i [] = NotFound (λ s (a, b, c, h, e). let j = h.words_are in cc)
+three step f g i (w ∷ []) = NotFound (λ s (a, b, c, h, e). let j = h.words_are in cc)
+three step f g i (w ∷ v ∷ []) = NotFound (λ s (a, b, c, h, e). let j = h.words_are in cc)
+three step f g i (w ∷ v ∷ u ∷ t ∷ ws) = NotFound (λ s (a, b, c, h, e). let j = h.words_are in cc)
+three {A} {B} {C} {F} {G} {H} step f g i (w ∷ v ∷ u ∷ []) =
+    carry (both (f w) (both (g v) (i u)))
+    (λ (a, (b, c)) (h, (k, l)). (
+      step a b c,
+      (a, b, c, record { first = w; second = v; third = u; words_are = refl; first_is = h; second_is = k; third_is = l }, refl),
+    ))
+    (λ s (a, b, c, h, e).
+    let j = h.words_are in
+    let k : h.first ≡ w = cc in
+    let l : h.second ≡ v = cc in
+    let m : h.third ≡ u = cc in (
+      (a, (b, c)),
+      (
+        subst (λ (z : List ℕ). F z a) k h.first_is,
+        (subst (λ (z : List ℕ). G z b) l h.second_is, subst (λ (z : List ℕ). H z c) m h.third_is),
+      ),
+    ))
+
+-- words are this name and one word of that form, or they aren't
+labelled : {A : Type 0} {F : List ℕ → A → Type 0} (name : List ℕ) → Decides F
+    → Decides (λ (words : List (List ℕ)) (x : A). (word : List ℕ) × (words ≡ name ∷ word ∷ []) × F word x)
+labelled name f [] = NotFound (λ x h. let e = h.1 in cc)
+labelled name f (v ∷ []) = NotFound (λ x h. let e = h.1 in cc)
+labelled name f (v ∷ w ∷ u ∷ ws) = NotFound (λ x h. let e = h.1 in cc)
+labelled {A} {F} name f (v ∷ w ∷ []) = step (same_text v name) (f w)
+  where
+    step : TrueOrNot (v ≡ name) → FoundOrNot (F w) → FoundOrNot (λ (x : A). (word : List ℕ) × (v ∷ w ∷ [] ≡ name ∷ word ∷ []) × F word x)
+    step (inl e) (Found x h) = Found x (w, ap (λ (z : List ℕ). z ∷ w ∷ []) e, h)
+    step (inl e) (NotFound isnt) = NotFound (λ x (z, g, h). let i : z ≡ w = cc in isnt x (subst (λ (y : List ℕ). F y x) i h))
+    step (inr isnt) r = NotFound (λ x (z, g, h). let i : v ≡ name = cc in isnt i)
+
+-- words say what a crash leaves, or they don't
 pick : Decides ArePick
-pick [] = inr none
+pick ws = step (same_words ws (codes "kept" ∷ [])) (same_words ws (codes "lost" ∷ [])) (labelled (codes "fill") byte ws)
   where
-    none : (p : Pick) → ArePick [] p → ⊥
-    none Kept h = cc
-    none Lost h = cc
-    none (Fill b) h = let e = h.1 in cc
-pick (w ∷ []) = step (same_list w (codes "kept")) (same_list w (codes "lost"))
+    step : TrueOrNot (ws ≡ codes "kept" ∷ []) → TrueOrNot (ws ≡ codes "lost" ∷ [])
+        → FoundOrNot (λ (b : ℕ). (word : List ℕ) × (ws ≡ codes "fill" ∷ word ∷ []) × IsHexOf word (b ∷ [])) → FoundOrNot (ArePick ws)
+    step (inl e) q r = Found Kept e
+    step (inr a) (inl e) r = Found Lost e
+    step (inr a) (inr b) (Found x h) = Found (Fill x) h
+    step (inr a) (inr b) (NotFound c) = NotFound (elim [ Kept ↦ a | Lost ↦ b | Fill x ↦ c x ])
+
+-- the words behind `crash` say a step, or none
+crash : Decides (SaysBehind verb.Crash)
+crash [] = NotFound (λ s h. let e = h.4 in cc)
+crash (w ∷ ws) =
+    carry (both (below 8 w) (pick ws)) (λ x h. (Once (Crash x.0 x.1), (x.0, x.1, w, ws, refl, h.0, h.1, refl)))
+    (λ s (m, p, d, b, e, i, j, f).
+    let k : d ≡ w = cc in
+    let l : b ≡ ws = cc in
+    ((m, p), (subst (λ (x : List ℕ). IsMember x m) k i, subst (λ (x : List (List ℕ)). ArePick x p) l j)))
+
+-- the words behind any verb do
+behind : (v : Verb) → Decides (SaysBehind v)
+behind verb.Propose = three (λ a b c. Once (Propose a b c)) (below 8) (below 16) bit
+behind verb.Deliver = three (λ a b c. Once (Deliver a b c)) (below 8) (below 8) which
+behind verb.Group = three (λ a b c. Once (DeliverAll a b c)) (below 8) (below 8) group_size
+behind verb.Lie = three (λ a b c. Once (Lie a b c)) (below 8) (below 8) bytes
+behind verb.Fuse = two (λ a b. Once (Fuse a b)) (below 8) fuse
+behind verb.Crash = crash
+behind verb.Restart = one (λ a. Once (Restart a)) (below 8)
+behind verb.Reset = two (λ a b. Once (Reset a b)) (below 8) (below 8)
+behind verb.Rounds = one (λ k. Rounds k) (below 64)
+behind verb.Random = one (λ k. Random k) (below 64)
+behind verb.Fair = one (λ k. Fair k fresh) (below 64)
+
+-- a word is the name of a verb, or of none: only the one that its length and first bytes point at can be meant
+verb_named : Decides (λ (word : List ℕ) (v : Verb). word ≡ verb_name v)
+verb_named w = step (same_text w (verb_name (verb_of w)))
   where
-    none : (w ≡ codes "kept" → ⊥) → (w ≡ codes "lost" → ⊥) → (p : Pick) → ArePick (w ∷ []) p → ⊥
-    none a b Kept h = let e : w ≡ codes "kept" = cc in a e
-    none a b Lost h = let e : w ≡ codes "lost" = cc in b e
-    none a b (Fill k) h = let e = h.1 in cc
+    step : TrueOrNot (w ≡ verb_name (verb_of w)) → FoundOrNot (λ (v : Verb). w ≡ verb_name v)
+    step (inl e) = Found (verb_of w) e
+    step (inr isnt) = NotFound (λ v e. isnt (e ∙ ap verb_name (sym (ap verb_of e ∙ of_name v))))
 
-    step : (w ≡ codes "kept") ⊎ (w ≡ codes "kept" → ⊥) → (w ≡ codes "lost") ⊎ (w ≡ codes "lost" → ⊥)
-        → ((p : Pick) × ArePick (w ∷ []) p) ⊎ ((p : Pick) → ArePick (w ∷ []) p → ⊥)
-    step (inl e) r = inl (Kept, ap (λ (v : List ℕ). v ∷ []) e)
-    step (inr a) (inl e) = inl (Lost, ap (λ (v : List ℕ). v ∷ []) e)
-    step (inr a) (inr b) = inr (none a b)
-pick (w ∷ d ∷ []) = step (same_list w (codes "fill")) (bytes d)
-  where
-    named : (w ≡ codes "fill" → ⊥) → (p : Pick) → ArePick (w ∷ d ∷ []) p → ⊥
-    named a Kept h = cc
-    named a Lost h = cc
-    named a (Fill k) h = let e = h.1 in let f : w ≡ codes "fill" = cc in a f
-
-    written : ((x : List ℕ) → IsHexOf d x → ⊥) → (p : Pick) → ArePick (w ∷ d ∷ []) p → ⊥
-    written a Kept h = cc
-    written a Lost h = cc
-    written a (Fill k) h = let e = h.1 in let f : d ≡ h.0 = cc in a (k ∷ []) (subst (λ (v : List ℕ). IsHexOf v (k ∷ [])) (sym f) h.2)
-
-    many : (x y : ℕ) (xs : List ℕ) → IsHexOf d (x ∷ y ∷ xs) → (p : Pick) → ArePick (w ∷ d ∷ []) p → ⊥
-    many x y xs g Kept h = cc
-    many x y xs g Lost h = cc
-    many x y xs g (Fill k) h =
-        let e = h.1 in
-        let f : d ≡ h.0 = cc in
-        let i : x ∷ y ∷ xs ≡ k ∷ [] = one_bytes d (x ∷ y ∷ xs) (k ∷ []) g (subst (λ (v : List ℕ). IsHexOf v (k ∷ [])) (sym f) h.2) in
-        cc
-
-    step : (w ≡ codes "fill") ⊎ (w ≡ codes "fill" → ⊥) → ((x : List ℕ) × IsHexOf d x) ⊎ ((x : List ℕ) → IsHexOf d x → ⊥)
-        → ((p : Pick) × ArePick (w ∷ d ∷ []) p) ⊎ ((p : Pick) → ArePick (w ∷ d ∷ []) p → ⊥)
-    step (inl e) (inl ([], h)) = let l = h.some in absurd (omega arith)
-    step (inl e) (inl (x ∷ [], h)) = inl (Fill x, (d, ap (λ (v : List ℕ). v ∷ d ∷ []) e, h))
-    step (inl e) (inl (x ∷ y ∷ xs, h)) = inr (many x y xs h)
-    step (inl e) (inr a) = inr (written a)
-    step (inr a) r = inr (named a)
-pick (w ∷ d ∷ e ∷ ws) = inr none
-  where
-    none : (p : Pick) → ArePick (w ∷ d ∷ e ∷ ws) p → ⊥
-    none Kept h = cc
-    none Lost h = cc
-    none (Fill b) h = let f = h.1 in cc
-
--- a form of words, as a pair or a triple of things
-one : {A : Type 0} (F : List ℕ → A → Type 0) → Decides F → (ws : List (List ℕ)) → ((a : A) × One F ws a) ⊎ ((a : A) → One F ws a → ⊥)
-one F f [] = inr (λ a h. let e = h.words_are in cc)
-one F f (w ∷ v ∷ ws) = inr (λ a h. let e = h.words_are in cc)
-one {A} F f (w ∷ []) = step (f w)
-  where
-    step : ((a : A) × F w a) ⊎ ((a : A) → F w a → ⊥) → ((a : A) × One F (w ∷ []) a) ⊎ ((a : A) → One F (w ∷ []) a → ⊥)
-    step (inl (a, h)) = inl (a, record { first = w; words_are = refl; first_is = h })
-    step (inr isnt) = inr (λ a h.
-        let e : w ∷ [] ≡ h.first ∷ [] = h.words_are in
-        let g : w ≡ h.first = cc in
-        isnt a (subst (λ (x : List ℕ). F x a) (sym g) h.first_is))
-
-two : {A B : Type 0} (F : List ℕ → A → Type 0) (G : List ℕ → B → Type 0) → Decides F → Decides G → (ws : List (List ℕ))
-    → ((a : A) × (b : B) × Two F G ws a b) ⊎ ((a : A) (b : B) → Two F G ws a b → ⊥)
-two F G f g [] = inr (λ a b h. let e = h.words_are in cc)
-two F G f g (w ∷ []) = inr (λ a b h. let e = h.words_are in cc)
-two F G f g (w ∷ v ∷ u ∷ ws) = inr (λ a b h. let e = h.words_are in cc)
-two {A} {B} F G f g (w ∷ v ∷ []) = step (f w) (g v)
-  where
-    step : ((a : A) × F w a) ⊎ ((a : A) → F w a → ⊥) → ((b : B) × G v b) ⊎ ((b : B) → G v b → ⊥)
-        → ((a : A) × (b : B) × Two F G (w ∷ v ∷ []) a b) ⊎ ((a : A) (b : B) → Two F G (w ∷ v ∷ []) a b → ⊥)
-    step (inl (a, h)) (inl (b, i)) = inl (a, b, record { first = w; second = v; words_are = refl; first_is = h; second_is = i })
-    step (inr isnt) r = inr (λ a b h.
-        let e : w ∷ v ∷ [] ≡ h.first ∷ h.second ∷ [] = h.words_are in
-        let k : w ≡ h.first = cc in
-        isnt a (subst (λ (x : List ℕ). F x a) (sym k) h.first_is))
-    step (inl k) (inr isnt) = inr (λ a b h.
-        let e : w ∷ v ∷ [] ≡ h.first ∷ h.second ∷ [] = h.words_are in
-        let l : v ≡ h.second = cc in
-        isnt b (subst (λ (x : List ℕ). G x b) (sym l) h.second_is))
-
-three : {A B C : Type 0} (F : List ℕ → A → Type 0) (G : List ℕ → B → Type 0) (H : List ℕ → C → Type 0) → Decides F → Decides G → Decides H → (ws : List (List ℕ))
-    → ((a : A) × (b : B) × (c : C) × Three F G H ws a b c) ⊎ ((a : A) (b : B) (c : C) → Three F G H ws a b c → ⊥)
-three F G H f g i [] = inr (λ a b c h. let e = h.words_are in cc)
-three F G H f g i (w ∷ []) = inr (λ a b c h. let e = h.words_are in cc)
-three F G H f g i (w ∷ v ∷ []) = inr (λ a b c h. let e = h.words_are in cc)
-three F G H f g i (w ∷ v ∷ u ∷ t ∷ ws) = inr (λ a b c h. let e = h.words_are in cc)
-three {A} {B} {C} F G H f g i (w ∷ v ∷ u ∷ []) = step (f w) (g v) (i u)
-  where
-    step : ((a : A) × F w a) ⊎ ((a : A) → F w a → ⊥) → ((b : B) × G v b) ⊎ ((b : B) → G v b → ⊥) → ((c : C) × H u c) ⊎ ((c : C) → H u c → ⊥)
-        → ((a : A) × (b : B) × (c : C) × Three F G H (w ∷ v ∷ u ∷ []) a b c) ⊎ ((a : A) (b : B) (c : C) → Three F G H (w ∷ v ∷ u ∷ []) a b c → ⊥)
-    step (inl (a, h)) (inl (b, j)) (inl (c, k)) =
-        inl (a, b, c, record { first = w; second = v; third = u; words_are = refl; first_is = h; second_is = j; third_is = k })
-    step (inr isnt) r s = inr (λ a b c h.
-        let e : w ∷ v ∷ u ∷ [] ≡ h.first ∷ h.second ∷ h.third ∷ [] = h.words_are in
-        let k : w ≡ h.first = cc in
-        isnt a (subst (λ (x : List ℕ). F x a) (sym k) h.first_is))
-    step (inl k) (inr isnt) s = inr (λ a b c h.
-        let e : w ∷ v ∷ u ∷ [] ≡ h.first ∷ h.second ∷ h.third ∷ [] = h.words_are in
-        let l : v ≡ h.second = cc in
-        isnt b (subst (λ (x : List ℕ). G x b) (sym l) h.second_is))
-    step (inl k) (inl l) (inr isnt) = inr (λ a b c h.
-        let e : w ∷ v ∷ u ∷ [] ≡ h.first ∷ h.second ∷ h.third ∷ [] = h.words_are in
-        let m : u ≡ h.third = cc in
-        isnt c (subst (λ (x : List ℕ). H x c) (sym m) h.third_is))
-
-crash : (ws : List (List ℕ)) → ((s : ScriptStep) × SaysBehind verb.Crash ws s) ⊎ ((s : ScriptStep) → SaysBehind verb.Crash ws s → ⊥)
-crash [] = inr (λ s h. let e = h.4 in cc)
-crash (w ∷ ws) = step (below 8 w) (pick ws)
-  where
-    step : ((m : ℕ) × IsMember w m) ⊎ ((m : ℕ) → IsMember w m → ⊥) → ((p : Pick) × ArePick ws p) ⊎ ((p : Pick) → ArePick ws p → ⊥)
-        → ((s : ScriptStep) × SaysBehind verb.Crash (w ∷ ws) s) ⊎ ((s : ScriptStep) → SaysBehind verb.Crash (w ∷ ws) s → ⊥)
-    step (inl (m, h)) (inl (p, g)) = inl (Once (Crash m p), (m, p, w, ws, refl, h, g, refl))
-    step (inr isnt) r = inr (λ s (m, p, d, b, e, i, j, f). let k : w ≡ d = cc in isnt m (subst (λ (x : List ℕ). IsMember x m) (sym k) i))
-    step (inl q) (inr isnt) = inr (λ s (m, p, d, b, e, i, j, f). let k : ws ≡ b = cc in isnt p (subst (λ (x : List (List ℕ)). ArePick x p) (sym k) j))
-
-behind : (v : Verb) (ws : List (List ℕ)) → ((s : ScriptStep) × SaysBehind v ws s) ⊎ ((s : ScriptStep) → SaysBehind v ws s → ⊥)
-behind verb.Propose ws =
-    elim (three IsMember IsCount IsBit (below 8) (below 16) bit ws)
-    [ inl (a, b, c, h) ↦ inl (Once (Propose a b c), (a, b, c, h, refl)) | inr isnt ↦ inr (λ s (a, b, c, h, e). isnt a b c h) ]
-behind verb.Deliver ws =
-    elim (three IsMember IsMember IsWhich (below 8) (below 8) which ws)
-    [ inl (a, b, c, h) ↦ inl (Once (Deliver a b c), (a, b, c, h, refl)) | inr isnt ↦ inr (λ s (a, b, c, h, e). isnt a b c h) ]
-behind verb.Group ws =
-    elim (three IsMember IsMember IsGroupSize (below 8) (below 8) group_size ws)
-    [ inl (a, b, c, h) ↦ inl (Once (DeliverAll a b c), (a, b, c, h, refl)) | inr isnt ↦ inr (λ s (a, b, c, h, e). isnt a b c h) ]
-behind verb.Lie ws =
-    elim (three IsMember IsMember IsHexOf (below 8) (below 8) bytes ws)
-    [ inl (a, b, c, h) ↦ inl (Once (Lie a b c), (a, b, c, h, refl)) | inr isnt ↦ inr (λ s (a, b, c, h, e). isnt a b c h) ]
-behind verb.Fuse ws =
-    elim (two IsMember IsFuse (below 8) fuse ws)
-    [ inl (a, b, h) ↦ inl (Once (Fuse a b), (a, b, h, refl)) | inr isnt ↦ inr (λ s (a, b, h, e). isnt a b h) ]
-behind verb.Crash ws = crash ws
-behind verb.Restart ws =
-    elim (one IsMember (below 8) ws) [ inl (a, h) ↦ inl (Once (Restart a), (a, h, refl)) | inr isnt ↦ inr (λ s (a, h, e). isnt a h) ]
-behind verb.Reset ws =
-    elim (two IsMember IsMember (below 8) (below 8) ws)
-    [ inl (a, b, h) ↦ inl (Once (Reset a b), (a, b, h, refl)) | inr isnt ↦ inr (λ s (a, b, h, e). isnt a b h) ]
-behind verb.Rounds ws =
-    elim (one IsLong (below 64) ws) [ inl (a, h) ↦ inl (Rounds a, (a, h, refl)) | inr isnt ↦ inr (λ s (a, h, e). isnt a h) ]
-behind verb.Random ws =
-    elim (one IsLong (below 64) ws) [ inl (a, h) ↦ inl (Random a, (a, h, refl)) | inr isnt ↦ inr (λ s (a, h, e). isnt a h) ]
-behind verb.Fair ws =
-    elim (one IsLong (below 64) ws) [ inl (a, h) ↦ inl (Fair a fresh, (a, h, refl)) | inr isnt ↦ inr (λ s (a, h, e). isnt a h) ]
-
--- the verb of a name
-no_verb : (w : List ℕ) → (w ≡ codes "group" → ⊥) → (w ≡ codes "propose" → ⊥) → (w ≡ codes "deliver" → ⊥) → (w ≡ codes "lie" → ⊥) → (w ≡ codes "fuse" → ⊥) → (w ≡ codes "crash" → ⊥)
-    → (w ≡ codes "restart" → ⊥) → (w ≡ codes "reset" → ⊥) → (w ≡ codes "rounds" → ⊥) → (w ≡ codes "random" → ⊥) → (w ≡ codes "fair" → ⊥) → (v : Verb) → w ≡ verb_name v → ⊥
-no_verb w z a b c d e f g h i j verb.Group = z
-no_verb w z a b c d e f g h i j verb.Propose = a
-no_verb w z a b c d e f g h i j verb.Deliver = b
-no_verb w z a b c d e f g h i j verb.Lie = c
-no_verb w z a b c d e f g h i j verb.Fuse = d
-no_verb w z a b c d e f g h i j verb.Crash = e
-no_verb w z a b c d e f g h i j verb.Restart = f
-no_verb w z a b c d e f g h i j verb.Reset = g
-no_verb w z a b c d e f g h i j verb.Rounds = h
-no_verb w z a b c d e f g h i j verb.Random = i
-no_verb w z a b c d e f g h i j verb.Fair = j
-
-verb_named : (w : List ℕ) → ((v : Verb) × (w ≡ verb_name v)) ⊎ ((v : Verb) → w ≡ verb_name v → ⊥)
-verb_named w =
-    elim (same_list w (codes "group")) [
-      | inl e ↦ inl (verb.Group, e)
-      | inr z ↦
-          elim (same_list w (codes "propose")) [
-            | inl e ↦ inl (verb.Propose, e)
-            | inr a ↦
-                elim (same_list w (codes "deliver")) [
-                  | inl e ↦ inl (verb.Deliver, e)
-                  | inr b ↦
-                      elim (same_list w (codes "lie")) [
-                        | inl e ↦ inl (verb.Lie, e)
-                        | inr c ↦
-                            elim (same_list w (codes "fuse")) [
-                              | inl e ↦ inl (verb.Fuse, e)
-                              | inr d ↦
-                                  elim (same_list w (codes "crash")) [
-                                    | inl e ↦ inl (verb.Crash, e)
-                                    | inr f ↦
-                                        elim (same_list w (codes "restart")) [
-                                          | inl e ↦ inl (verb.Restart, e)
-                                          | inr g ↦
-                                              elim (same_list w (codes "reset")) [
-                                                | inl e ↦ inl (verb.Reset, e)
-                                                | inr h ↦
-                                                    elim (same_list w (codes "rounds")) [
-                                                      | inl e ↦ inl (verb.Rounds, e)
-                                                      | inr i ↦
-                                                          elim (same_list w (codes "random")) [
-                                                            | inl e ↦ inl (verb.Random, e)
-                                                            | inr j ↦
-                                                                elim (same_list w (codes "fair")) [
-                                                                  | inl e ↦ inl (verb.Fair, e)
-                                                                  | inr k ↦
-                                                                      inr (no_verb w z a b c d f g h i j k)
-                                                                ]
-                                                          ]
-                                                    ]
-                                              ]
-                                        ]
-                                  ]
-                            ]
-                      ]
-                ]
-          ]
-    ]
-
+-- the words of a line say a step, or none
 says : Decides SaysStep
-says [] = inr (λ s h. let e = h.words_are in cc)
+says [] = NotFound (λ s h. let e = h.words_are in cc)
 says (w ∷ ws) = step (verb_named w)
   where
-    known : (v : Verb) → w ≡ verb_name v → ((s : ScriptStep) × SaysBehind v ws s) ⊎ ((s : ScriptStep) → SaysBehind v ws s → ⊥)
-        → ((s : ScriptStep) × SaysStep (w ∷ ws) s) ⊎ ((s : ScriptStep) → SaysStep (w ∷ ws) s → ⊥)
-    known v e (inl (s, h)) = inl (s, record { its_verb = v; behind = ws; words_are = ap (λ (x : List ℕ). x ∷ ws) e; says = h })
-    known v e (inr isnt) = inr (λ s h.
+    step : FoundOrNot (λ (v : Verb). w ≡ verb_name v) → FoundOrNot (SaysStep (w ∷ ws))
+    step (Found v e) =
+        carry (behind v ws) (λ s h. (s, record { its_verb = v; behind = ws; words_are = ap (λ (x : List ℕ). x ∷ ws) e; says = h }))
+        (λ s h.
         let f : w ∷ ws ≡ verb_name h.its_verb ∷ h.behind = h.words_are in
         let g : w ≡ verb_name h.its_verb = cc in
-        let i : ws ≡ h.behind = cc in
-        let j = one_verb v h.its_verb (sym e ∙ g) in
-        isnt s (subst (λ (x : Verb). SaysBehind x ws s) (sym j) (subst (λ (x : List (List ℕ)). SaysBehind h.its_verb x s) (sym i) h.says)))
+        let i : h.behind ≡ ws = cc in
+        let j : h.its_verb ≡ v = one_verb h.its_verb v (sym g ∙ e) in
+        (s, subst (λ (x : Verb). SaysBehind x ws s) j (subst (λ (x : List (List ℕ)). SaysBehind h.its_verb x s) i h.says)))
+    step (NotFound isnt) = NotFound (λ s h. let f = h.words_are in let g : w ≡ verb_name h.its_verb = cc in isnt h.its_verb g)
 
-    step : ((v : Verb) × (w ≡ verb_name v)) ⊎ ((v : Verb) → w ≡ verb_name v → ⊥) → ((s : ScriptStep) × SaysStep (w ∷ ws) s) ⊎ ((s : ScriptStep) → SaysStep (w ∷ ws) s → ⊥)
-    step (inl (v, e)) = known v e (behind v ws)
-    step (inr isnt) = inr (λ s h.
-        let f : w ∷ ws ≡ verb_name h.its_verb ∷ h.behind = h.words_are in
-        let g : w ≡ verb_name h.its_verb = cc in
-        isnt h.its_verb g)
+-- something good, or a fault of some kind
+abbrev GoodOr : Type 0 → (ScriptFault → Type 0) → Type 0
+GoodOr Good Bad = Good ⊎ ((fault : ScriptFault) × Bad fault)
 
--- lines lead on or break
-leads_or_breaks : (size : Size) (correct : List ℕ) (before : Made) (lines : List (ℕ × List ℕ))
-    → ((after : Made) × LeadTo size correct before lines after) ⊎ ((fault : ScriptFault) × BreakBy size correct before lines fault)
+-- what is good stays so, and a fault of one kind is one of another
+pass : {Good : Type 0} {Bad Worse : ScriptFault → Type 0} → GoodOr Good Bad → ((fault : ScriptFault) → Bad fault → Worse fault)
+    → GoodOr Good Worse
+pass (inl good) to = inl good
+pass (inr (fault, bad)) to = inr (fault, to fault bad)
+
+-- lines lead on to something, or break
+abbrev LeadsOrBreaks : Size → List ℕ → Made → List (ℕ × List ℕ) → Type 0
+LeadsOrBreaks size correct before lines =
+    GoodOr ((after : Made) × LeadTo size correct before lines after) (BreakBy size correct before lines)
+
+-- each list of lines does one of the two
+leads_or_breaks : (size : Size) (correct : List ℕ) (before : Made) (lines : List (ℕ × List ℕ)) → LeadsOrBreaks size correct before lines
 leads_or_breaks size correct before [] = inl (before, refl)
-leads_or_breaks size correct before (line ∷ lines) =
-    step (says (words_of line.1)) (λ next. leads_or_breaks size correct next lines)
+leads_or_breaks size correct before (line ∷ lines) = step (says (words_of line.1)) (λ next. leads_or_breaks size correct next lines)
   where
     fits : (s : ScriptStep) → SaysStep (words_of line.1) s
-        → (MOST_EVENTS < length (after_step size correct s before).events) ⊎ (length (after_step size correct s before).events ≤ MOST_EVENTS)
-        → ((after : Made) × LeadTo size correct (after_step size correct s before) lines after)
-        ⊎ ((fault : ScriptFault) × BreakBy size correct (after_step size correct s before) lines fault)
-        → ((after : Made) × LeadTo size correct before (line ∷ lines) after) ⊎ ((fault : ScriptFault) × BreakBy size correct before (line ∷ lines) fault)
+        → (MOST_EVENTS < length (after_step size correct s before).events)
+        ⊎ (length (after_step size correct s before).events ≤ MOST_EVENTS)
+        → LeadsOrBreaks size correct (after_step size correct s before) lines → LeadsOrBreaks size correct before (line ∷ lines)
     fits s h (inl over) r = inr (faults.Events, inl (inr (s, h, (over, refl))))
     fits s h (inr few) (inl (after, l)) = inl (after, (after_step size correct s before, (s, h, record { there = refl; few = few }), l))
     fits s h (inr few) (inr (fault, b)) = inr (fault, inr (after_step size correct s before, (s, h, record { there = refl; few = few }), b))
 
-    step : ((s : ScriptStep) × SaysStep (words_of line.1) s) ⊎ ((s : ScriptStep) → SaysStep (words_of line.1) s → ⊥)
-        → ((next : Made) → ((after : Made) × LeadTo size correct next lines after) ⊎ ((fault : ScriptFault) × BreakBy size correct next lines fault))
-        → ((after : Made) × LeadTo size correct before (line ∷ lines) after) ⊎ ((fault : ScriptFault) × BreakBy size correct before (line ∷ lines) fault)
-    step (inl (s, h)) go = fits s h (less_or MOST_EVENTS (length (after_step size correct s before).events)) (go (after_step size correct s before))
-    step (inr isnt) go = inr (faults.Line line.0, inl (inl (isnt, refl)))
+    step : FoundOrNot (SaysStep (words_of line.1)) → ((next : Made) → LeadsOrBreaks size correct next lines)
+        → LeadsOrBreaks size correct before (line ∷ lines)
+    step (Found s h) go =
+        fits s h (less_or MOST_EVENTS (length (after_step size correct s before).events)) (go (after_step size correct s before))
+    step (NotFound isnt) go = inr (faults.Line line.0, inl (inl (isnt, refl)))
 
--- the line at a place is of a form, or the fault names it
-has_line : {A : Type 0} (page : Page) (place : ℕ) (Form : List (List ℕ) → A → Type 0) → Decides Form
-    → ((x : A) × HasLine page place Form x) ⊎ LacksLine page place Form (faults.Line (line_number page place))
-has_line {A} page place Form decide = step (slice_get page.said place) refl
+-- there is a line of a form at a place, or none
+has_line : {A : Type 0} {Form : List (List ℕ) → A → Type 0} (page : Page) (place : ℕ) → Decides Form → FoundOrNot (HasLine page place Form)
+has_line {A} {Form} page place decide = step (slice_get page.said place) refl
   where
-    known : (line : ℕ × List ℕ) → slice_get page.said place ≡ Some line → ((x : A) × Form (words_of line.1) x) ⊎ ((x : A) → Form (words_of line.1) x → ⊥)
-        → ((x : A) × HasLine page place Form x) ⊎ LacksLine page place Form (faults.Line (line_number page place))
-    known line e (inl (x, h)) = inl (x, record { line = line; there = e; form = h })
-    known line e (inr isnt) = inr (record {
-      none = λ x h.
-          let f : ◌≡◌ {A = Option (ℕ × List ℕ)} (Some h.line) (Some line) = sym h.there ∙ e in
-          let g : h.line ≡ line = cc in
-          isnt x (subst (λ (l : ℕ × List ℕ). Form (words_of l.1) x) g h.form);
-      fault_is = refl;
-    })
+    step : (o : Option (ℕ × List ℕ)) → slice_get page.said place ≡ o → FoundOrNot (HasLine page place Form)
+    step (Some line) e =
+        carry (decide (words_of line.1)) (λ x h. (x, record { line = line; there = e; form = h }))
+        (λ x h.
+        let f : ◌≡◌ {A = Option (ℕ × List ℕ)} (Some h.line) (Some line) = sym h.there ∙ e in
+        let g : h.line ≡ line = cc in
+        (x, subst (λ (l : ℕ × List ℕ). Form (words_of l.1) x) g h.form))
+    step None e = NotFound (λ x h. let f : ◌≡◌ {A = Option (ℕ × List ℕ)} None (Some h.line) = sym e ∙ h.there in cc)
 
-    step : (o : Option (ℕ × List ℕ)) → slice_get page.said place ≡ o → ((x : A) × HasLine page place Form x) ⊎ LacksLine page place Form (faults.Line (line_number page place))
-    step (Some line) e = known line e (decide (words_of line.1))
-    step None e = inr (record {
-      none = λ x h. let f : ◌≡◌ {A = Option (ℕ × List ℕ)} None (Some h.line) = sym e ∙ h.there in cc;
-      fault_is = refl;
-    })
-
-named : (name : List ℕ) → Decides (IsNumberNamed name)
-named name [] = inr (λ x h. let e = h.1 in cc)
-named name (v ∷ []) = inr (λ x h. let e = h.1 in cc)
-named name (v ∷ w ∷ u ∷ ws) = inr (λ x h. let e = h.1 in cc)
-named name (v ∷ w ∷ []) = step (same_list v name) (below 16 w)
+-- There is one, and what is behind it is good or has the first fault, or that line is the first fault.
+at_line : {A Good : Type 0} {Form : List (List ℕ) → A → Type 0} {Later : A → ScriptFault → Type 0} (page : Page) (place : ℕ) → Decides Form
+    → ((x : A) → HasLine page place Form x → GoodOr Good (Later x)) → GoodOr Good (FailsOr page place Form Later)
+at_line {A} {Good} {Form} {Later} page place decide more = step (has_line page place decide)
   where
-    step : (v ≡ name) ⊎ (v ≡ name → ⊥) → ((n : ℕ) × IsCount w n) ⊎ ((n : ℕ) → IsCount w n → ⊥)
-        → ((n : ℕ) × IsNumberNamed name (v ∷ w ∷ []) n) ⊎ ((n : ℕ) → IsNumberNamed name (v ∷ w ∷ []) n → ⊥)
-    step (inl e) (inl (n, h)) = inl (n, (w, ap (λ (x : List ℕ). x ∷ w ∷ []) e, h))
-    step (inr isnt) r = inr (λ n (x, f, g). let e : v ≡ name = cc in isnt e)
-    step (inl e) (inr isnt) = inr (λ n (x, f, g). let e : w ≡ x = cc in isnt n (subst (λ (y : List ℕ). IsCount y n) (sym e) g))
+    step : FoundOrNot (HasLine page place Form) → GoodOr Good (FailsOr page place Form Later)
+    step (Found x h) = pass (more x h) (λ fault later. inr (x, h, later))
+    step (NotFound isnt) = inr (faults.Line (line_number page place), inl (record { none = isnt; fault_is = refl }))
 
+-- The numbers make a size, and what is behind it is good or has the first fault, or they are the first fault.
+at_size : {Good : Type 0} {Later : Size → ScriptFault → Type 0} (n t questions : ℕ)
+    → ((size : Size) → MakeSize n t questions size → GoodOr Good (Later size)) → GoodOr Good (SizeFailsOr n t questions Later)
+at_size {Good} {Later} n t questions more = step (size_fault n t questions) refl
+  where
+    step : (o : Option SizeFault) → size_fault n t questions ≡ o → GoodOr Good (SizeFailsOr n t questions Later)
+    step None e =
+        let made : MakeSize n t questions (new_size n t questions) = record { size_is = refl; sound = e } in
+        pass (more (new_size n t questions) made) (λ fault later. inr (new_size n t questions, made, later))
+    step (Some wrong) e = inr (faults.Size wrong, inl (wrong, e, refl))
+
+-- words are `liars` and members, or they aren't
 liars : Decides AreListedLiars
-liars [] = inr (λ x h. let e = h.1 in cc)
-liars (w ∷ ws) = step (same_list w (codes "liars")) (members ws)
+liars [] = NotFound (λ x h. let e = h.1 in cc)
+liars (w ∷ ws) = step (same_text w (codes "liars")) (members ws)
   where
-    step : (w ≡ codes "liars") ⊎ (w ≡ codes "liars" → ⊥) → ((ms : List ℕ) × AreMembers ws ms) ⊎ ((ms : List ℕ) → AreMembers ws ms → ⊥)
-        → ((ms : List ℕ) × AreListedLiars (w ∷ ws) ms) ⊎ ((ms : List ℕ) → AreListedLiars (w ∷ ws) ms → ⊥)
-    step (inl e) (inl (ms, h)) = inl (ms, (ws, ap (λ (x : List ℕ). x ∷ ws) e, h))
-    step (inr isnt) r = inr (λ n (x, f, g). let e : w ≡ codes "liars" = cc in isnt e)
-    step (inl e) (inr isnt) = inr (λ n (x, f, g). let e : ws ≡ x = cc in isnt n (subst (λ (y : List (List ℕ)). AreMembers y n) (sym e) g))
+    step : TrueOrNot (w ≡ codes "liars") → FoundOrNot (AreMembers ws) → FoundOrNot (AreListedLiars (w ∷ ws))
+    step (inl e) (Found ms h) = Found ms (ws, ap (λ (x : List ℕ). x ∷ ws) e, h)
+    step (inl e) (NotFound isnt) = NotFound (λ n (x, f, g).
+        let i : x ≡ ws = cc in
+        isnt n (subst (λ (y : List (List ℕ)). AreMembers y n) i g))
+    step (inr isnt) r = NotFound (λ n (x, f, g). let i : w ≡ codes "liars" = cc in isnt i)
 
-seed : Decides IsSeed
-seed [] = inr (λ x h. let e = h.1 in cc)
-seed (v ∷ []) = inr (λ x h. let e = h.1 in cc)
-seed (v ∷ w ∷ u ∷ ws) = inr (λ x h. let e = h.1 in cc)
-seed (v ∷ w ∷ []) = step (same_list v (codes "seed")) (below 64 w)
-  where
-    step : (v ≡ codes "seed") ⊎ (v ≡ codes "seed" → ⊥) → ((n : ℕ) × IsLong w n) ⊎ ((n : ℕ) → IsLong w n → ⊥)
-        → ((n : ℕ) × IsSeed (v ∷ w ∷ []) n) ⊎ ((n : ℕ) → IsSeed (v ∷ w ∷ []) n → ⊥)
-    step (inl e) (inl (n, h)) = inl (n, (w, ap (λ (x : List ℕ). x ∷ w ∷ []) e, h))
-    step (inr isnt) r = inr (λ n (x, f, g). let e : v ≡ codes "seed" = cc in isnt e)
-    step (inl e) (inr isnt) = inr (λ n (x, f, g). let e : w ≡ x = cc in isnt n (subst (λ (y : List ℕ). IsLong y n) (sym e) g))
+-- the text says a cluster and events
+abbrev Told : List ℕ → Type 0
+Told text = (size : Size) × (ls : List ℕ) × (events : List TossedAct) × SaysCluster text size ls events
 
-sized : (n t questions : ℕ) → ((size : Size) × MakeSize n t questions size) ⊎ ((wrong : SizeFault) × (size_fault n t questions ≡ Some wrong))
-sized n t questions = step (size_fault n t questions) refl
+-- behind a good head the lines lead on, and so the text says something, or they break
+told : (text : List ℕ) (size : Size) (ls : List ℕ) (seed : ℕ) → IsHead (page_from text) size ls seed
+    → GoodOr (Told text) (BreakBy size (correct_below size.n ls) (at_start seed) (drop 5 (page_from text).said))
+told text size ls seed head = step (leads_or_breaks size (correct_below size.n ls) (at_start seed) (drop 5 (page_from text).said))
   where
-    step : (o : Option SizeFault) → size_fault n t questions ≡ o
-        → ((size : Size) × MakeSize n t questions size) ⊎ ((wrong : SizeFault) × (size_fault n t questions ≡ Some wrong))
-    step None e = inl (new_size n t questions, record { size_is = refl; sound = e })
-    step (Some wrong) e = inr (wrong, e)
+    step : LeadsOrBreaks size (correct_below size.n ls) (at_start seed) (drop 5 (page_from text).said)
+        → GoodOr (Told text) (BreakBy size (correct_below size.n ls) (at_start seed) (drop 5 (page_from text).said))
+    step (inl (after, h)) = inl (size, ls, after.events, record { seed = seed; last = after; head = head; steps = h; events_are = refl })
+    step (inr broken) = inr broken
 
 -- each text says something, or has a first fault
-pub told_or_fault : (text : List ℕ) → ((size : Size) × (ls : List ℕ) × (events : List TossedAct) × SaysCluster text size ls events) ⊎ ((fault : ScriptFault) × IsFirstFault text fault)
+pub told_or_fault : (text : List ℕ)
+    → ((size : Size) × (ls : List ℕ) × (events : List TossedAct) × SaysCluster text size ls events)
+    ⊎ ((fault : ScriptFault) × IsFirstFault text fault)
 told_or_fault text =
-    elim (has_line (page_from text) 0 (IsNumberNamed (codes "n")) (named (codes "n"))) [
-      | inr k ↦ inr (_, inl k)
-      | inl (n, a) ↦
-          elim (has_line (page_from text) 1 (IsNumberNamed (codes "t")) (named (codes "t"))) [
-            | inr k ↦ inr (_, inr (n, a, inl k))
-            | inl (t, b) ↦
-                elim (has_line (page_from text) 2 (IsNumberNamed (codes "questions")) (named (codes "questions"))) [
-                  | inr k ↦ inr (_, inr (n, a, inr (t, b, inl k)))
-                  | inl (q, c) ↦
-                      elim (sized n t q) [
-                        | inr (wrong, e) ↦ inr (faults.Size wrong, inr (n, a, inr (t, b, inr (q, c, inl (wrong, e, refl)))))
-                        | inl (size, s) ↦
-                            elim (has_line (page_from text) 3 AreListedLiars liars) [
-                              | inr k ↦ inr (_, inr (n, a, inr (t, b, inr (q, c, inr (size, s, inl k)))))
-                              | inl (ls, l) ↦
-                                  elim (has_line (page_from text) 4 IsSeed seed) [
-                                    | inr k ↦ inr (_, inr (n, a, inr (t, b, inr (q, c, inr (size, s, inr (ls, l, inl k))))))
-                                    | inl (d, g) ↦
-                                        elim (leads_or_breaks size (correct_below size.n ls) (at_start d) (drop 5 (page_from text).said)) [
-                                          | inr (fault, h) ↦ inr (fault, inr (n, a, inr (t, b, inr (q, c, inr (size, s, inr (ls, l, inr (d, g, h)))))))
-                                          | inl (after, h) ↦ inl (
-                                            size,
-                                            ls,
-                                            after.events,
-                                            record {
-                                              seed = d;
-                                              last = after;
-                                              head = record { n = n; t = t; questions = q; n_is = a; t_is = b; questions_is = c; size_is = s; liars_are = l; seed_is = g };
-                                              steps = h;
-                                              events_are = refl;
-                                            },
-                                          )
-                                        ]
-                                  ]
-                            ]
-                      ]
-                ]
-          ]
-    ]
+    at_line (page_from text) 0 (labelled (codes "n") (below 16)) (λ n n_is.
+    at_line (page_from text) 1 (labelled (codes "t") (below 16)) (λ t t_is.
+    at_line (page_from text) 2 (labelled (codes "questions") (below 16)) (λ questions questions_is.
+    at_size n t questions (λ size size_is.
+    at_line (page_from text) 3 liars (λ ls liars_are.
+    at_line (page_from text) 4 (labelled (codes "seed") (below 64)) (λ seed seed_is.
+    told text size ls seed (record {
+      n = n;
+      t = t;
+      questions = questions;
+      n_is = n_is;
+      t_is = t_is;
+      questions_is = questions_is;
+      size_is = size_is;
+      liars_are = liars_are;
+      seed_is = seed_is;
+    })))))))

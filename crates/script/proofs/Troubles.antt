@@ -19,7 +19,7 @@ use Rattle.script.specs.Fair.{Cast, Network, fresh, due_or_drawn, drawn_event, f
 use Rattle.script.specs.Making.{add, add_fair}
 use Rattle.script.specs.Making.{Made, cast_of, fairs}
 use Rattle.script.specs.FairLines.{HasRestart, fair_acts}
-use Rattle.script.proofs.Total.{less_or}
+use Rattle.script.proofs.Deciding.{less_or}
 
 -- the acts of so many events, in turn
 abbrev acts : Cast → ℕ → Network → ChaCha → List Act
