@@ -1,8 +1,8 @@
 -- Batches in front of bytes, one after another, and what goes wrong behind them.
-use Rattle.std.proofs.Common.{◌≡◌, ℕ, ◌-◌, List, [], ◌∷◌, ◌++◌, ◌<◌, ◌+◌, length, drop, refl, sym, ◌∙◌, ap, arith, append_assoc, length-append, length-drop, drop-drop, drop_at, take-append-drop}
+use Rattle.std.proofs.Common.{◌≡◌, inl, inr, ℕ, ◌-◌, List, [], ◌∷◌, ◌++◌, ◌<◌, ◌+◌, length, drop, refl, sym, ◌∙◌, ap, arith, append_assoc, length-append, length-drop, drop-drop, drop_at, take-append-drop}
 use Rattle.std.proofs.lemmas.List.Concat.{flat_map-append}
 use Rattle.terms_prelude.specs.Terms.{Record, Header, IsSize}
-use Rattle.journal.specs.Words.{JournalFault, NotEmpty, BadHeader, OtherHeader, BadRecord, CutShort, Device, Memory, Stopped, Full, OldVersion, Spelling, version_2, Batch, batch_in, batches_in, batches_bytes, batch_records, IsBatch, AreBatches, IsBadIn, IsCutIn, StumblesIn, ReadsIn, BreaksBatches, BreaksIn, TakesBatches, TakesIn, header_text, HasHeader, Holds}
+use Rattle.journal.specs.Words.{JournalFault, Memory, Spelling, version_2, Batch, batch_in, batches_in, batches_bytes, batch_records, IsBatch, AreBatches, IsBadIn, IsCutIn, StumblesIn, ReadsIn, BreaksBatches, BreaksIn, TakesBatches, TakesIn, header_text, HasHeader, Holds}
 use Rattle.journal.proofs.Endings.{Ending, Closed, Cut, Bad, EndsIn, one_end, one_text, rest_of_batches}
 use Rattle.journal.proofs.Opened.{front_of}
 use Rattle.journal.proofs.Six.{six}
@@ -49,16 +49,11 @@ module _ (spelling : Spelling) where
   }
 
   pub breaks_behind : (h : Header) (bytes rest : List ℕ) (records : List Record) (fault : JournalFault) → TakesIn spelling h bytes records rest → BreaksIn spelling h fault rest → BreaksIn spelling h fault bytes
-  breaks_behind h bytes rest records NotEmpty t breaks = breaks
-  breaks_behind h bytes rest records BadHeader t breaks = breaks
-  breaks_behind h bytes rest records OtherHeader t breaks = breaks
-  breaks_behind h bytes rest records BadRecord t breaks = stumbles_behind h bytes rest records (IsBadIn spelling h) t breaks
-  breaks_behind h bytes rest records CutShort t breaks = stumbles_behind h bytes rest records (IsCutIn spelling) t breaks
-  breaks_behind h bytes rest records Device t breaks = breaks
-  breaks_behind h bytes rest records Memory t breaks = breaks
-  breaks_behind h bytes rest records Stopped t breaks = breaks
-  breaks_behind h bytes rest records Full t breaks = breaks
-  breaks_behind h bytes rest records OldVersion t breaks = breaks
+  breaks_behind h bytes rest records fault t (inl memory) = inl memory
+  breaks_behind h bytes rest records fault t (inr (inl cut)) =
+      inr (inl (cut.0, stumbles_behind h bytes rest records (IsCutIn spelling) t cut.1))
+  breaks_behind h bytes rest records fault t (inr (inr bad)) =
+      inr (inr (bad.0, stumbles_behind h bytes rest records (IsBadIn spelling h) t bad.1))
 
 -- Bytes that are batches up to a closed gate: of the first batches of theirs the records are the first.
 pub left_behind : (h : Header) (bytes behind shut : List ℕ) (records added : List Record) → IsSize h.size → TakesBatches h bytes records (0 ∷ shut) → TakesBatches h bytes added behind
@@ -77,18 +72,11 @@ wrong_nowhere h bytes shut records end bs rest size all good is ends =
     one_end version_2 six h all.batches bs (0 ∷ shut) rest Closed end size all.good good (shut, refl) ends (sym all.is ∙ is)
 
 pub breaks_nowhere : (h : Header) (bytes shut : List ℕ) (records : List Record) (fault : JournalFault) → IsSize h.size → TakesBatches h bytes records (0 ∷ shut) → BreaksBatches h fault bytes → fault ≡ Memory
-breaks_nowhere h bytes shut records NotEmpty size all breaks = absurd breaks
-breaks_nowhere h bytes shut records BadHeader size all breaks = absurd breaks
-breaks_nowhere h bytes shut records OtherHeader size all breaks = absurd breaks
-breaks_nowhere h bytes shut records BadRecord size all breaks =
-    let same = wrong_nowhere h bytes shut records Bad breaks.batches breaks.rest size all breaks.good breaks.is breaks.wrong in cc same
-breaks_nowhere h bytes shut records CutShort size all breaks =
-    let same = wrong_nowhere h bytes shut records Cut breaks.batches breaks.rest size all breaks.good breaks.is breaks.wrong in cc same
-breaks_nowhere h bytes shut records Device size all breaks = absurd breaks
-breaks_nowhere h bytes shut records Memory size all breaks = refl
-breaks_nowhere h bytes shut records Stopped size all breaks = absurd breaks
-breaks_nowhere h bytes shut records Full size all breaks = absurd breaks
-breaks_nowhere h bytes shut records OldVersion size all breaks = absurd breaks
+breaks_nowhere h bytes shut records fault size all (inl memory) = memory
+breaks_nowhere h bytes shut records fault size all (inr (inl cut)) =
+    let same = wrong_nowhere h bytes shut records Cut cut.1.batches cut.1.rest size all cut.1.good cut.1.is cut.1.wrong in cc same
+breaks_nowhere h bytes shut records fault size all (inr (inr bad)) =
+    let same = wrong_nowhere h bytes shut records Bad bad.1.batches bad.1.rest size all bad.1.good bad.1.is bad.1.wrong in cc same
 
 -- behind what was taken of the bytes from some place on
 pub rest_at : (bytes taken behind : List ℕ) (at : ℕ) → drop at bytes ≡ taken ++ behind → length behind < length (drop at bytes) → drop (length bytes - length behind) bytes ≡ behind

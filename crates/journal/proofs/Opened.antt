@@ -1,9 +1,9 @@
 -- A file that is read, and one that is made.
-use Rattle.std.proofs.Common.{◌≡◌, ℕ, ◌+◌, ◌≤◌, List, [], ◌∷◌, ◌++◌, length, take, drop, refl, sym, ◌∙◌, ap, arith, append_assoc, length-append, take-append-drop, append-nil, length-take-le, take_at, take-take, get_or, codes}
+use Rattle.std.proofs.Common.{◌≡◌, inl, inr, ℕ, ◌+◌, ◌≤◌, List, [], ◌∷◌, ◌++◌, length, take, drop, refl, sym, ◌∙◌, ap, subst, arith, append_assoc, length-append, take-append-drop, append-nil, length-take-le, take_at, take-take, get_or, codes}
 use Rattle.std.proofs.lemmas.List.{drop_all}
 use Rattle.terms_prelude.specs.Terms.{Record, Header}
 use Rattle.disk.specs.Model.{State, at_rest, overwritten}
-use Rattle.journal.specs.Words.{JournalFault, NotEmpty, BadHeader, OtherHeader, BadRecord, CutShort, Device, Memory, Stopped, Full, OldVersion, header_text, batches_bytes, IsHeader, HasHeader, GoesWrong, RefusesFile, IsHeld, IsOfFile, IsOldVersion, version_2, ReadsIn, StumblesIn, BreaksBatches}
+use Rattle.journal.specs.Words.{JournalFault, header_text, batches_bytes, IsHeader, HasHeader, GoesWrong, RefusesFile, IsHeld, IsOfFile, IsOldVersion, IsBad, IsCut, version_2, ReadsIn, StumblesIn, BreaksBatches}
 use Rattle.journal.proofs.Headers.{mark_again}
 use Rattle.journal.proofs.Texts.{length-header_text}
 
@@ -66,16 +66,11 @@ wrong_from file behind header IsWrong has is stumbles = record {
 }
 
 pub refused_from : (file behind : List ℕ) (header : Header) (fault : JournalFault) → HasHeader header file → behind ≡ drop 24 file → BreaksBatches header fault behind → IsOfFile fault → RefusesFile header fault file
-refused_from file behind header NotEmpty has is breaks of_file = absurd breaks
-refused_from file behind header BadHeader has is breaks of_file = absurd breaks
-refused_from file behind header OtherHeader has is breaks of_file = absurd breaks
-refused_from file behind header BadRecord has is breaks of_file = wrong_from file behind header _ has is breaks
-refused_from file behind header CutShort has is breaks of_file = wrong_from file behind header _ has is breaks
-refused_from file behind header Device has is breaks of_file = absurd breaks
-refused_from file behind header Memory has is breaks of_file = absurd of_file
-refused_from file behind header Stopped has is breaks of_file = absurd breaks
-refused_from file behind header Full has is breaks of_file = absurd breaks
-refused_from file behind header OldVersion has is breaks of_file = absurd breaks
+refused_from file behind header fault has is (inl memory) of_file = absurd (subst IsOfFile memory of_file)
+refused_from file behind header fault has is (inr (inl cut)) of_file =
+    subst (λ (f : JournalFault). RefusesFile header f file) (sym cut.0) (wrong_from file behind header IsCut has is cut.1)
+refused_from file behind header fault has is (inr (inr bad)) of_file =
+    subst (λ (f : JournalFault). RefusesFile header f file) (sym bad.0) (wrong_from file behind header (IsBad header) has is bad.1)
 
 -- bytes that are written into an empty file
 pub over_nothing : (bytes : List ℕ) → overwritten [] 0 bytes ≡ bytes

@@ -134,9 +134,9 @@ module _ (spelling : Spelling) (fixed : HasWidth spelling) where
 
   -- why they were refused
   pub broken : (header : Header) (bytes body : List ℕ) (size : ℕ) (fault : JournalFault) → IsBody bytes body size → (fault ≡ Memory) ⊎ ((fault ≡ BadRecord) × HasOddIn spelling header (count_of bytes) body) → BreaksIn spelling header fault bytes
-  broken header bytes body size fault it (inl memory) = subst (λ (f : JournalFault). BreaksIn spelling header f bytes) (sym memory) tt
-  broken header bytes body size fault it (inr bad) = subst (λ (f : JournalFault). BreaksIn spelling header f bytes) (sym bad.0)
-      (record { batches = []; rest = bytes; good = tt; is = refl; wrong = bad_record header bytes body size it bad.1 })
+  broken header bytes body size fault it (inl memory) = inl memory
+  broken header bytes body size fault it (inr bad) =
+      inr (inr (bad.0, record { batches = []; rest = bytes; good = tt; is = refl; wrong = bad_record header bytes body size it bad.1 }))
 
   -- they are records, so a batch stands in front
   pub batch_taken : (header : Header) (bytes body behind : List ℕ) (size : ℕ) (added : List Record) → IsBody bytes body size → behind ≡ drop size (behind_of bytes) → ((k : ℕ) → get_or bytes k 0 < 256) → count_of bytes ≢ 0 → AreTextIn spelling header body added → TakesIn spelling header bytes added behind

@@ -1,9 +1,9 @@
 -- What reading the bytes behind a header finds.
-use Rattle.std.specs.Prelude.{ℕ, ◌≡◌, ◌≢◌, ◌*◌, ◌<◌, List, ◌∷◌, ◌++◌, length, take, drop}
+use Rattle.std.specs.Prelude.{ℕ, ◌≡◌, ◌≢◌, ◌⊎◌, ◌*◌, ◌<◌, List, ◌∷◌, ◌++◌, length, take, drop}
 use Rattle.std.specs.List.{flat_map}
 use Rattle.terms_prelude.specs.Terms.{Statement, Record, Header, new_place, value_code}
 use Rattle.journal.specs.declared.fault.JournalFault.{JournalFault}
-use Rattle.journal.specs.declared.fault.JournalFault.TheVariants.{NotEmpty, BadHeader, OtherHeader, BadRecord, CutShort, Device, Memory, Stopped, Full, OldVersion}
+use Rattle.journal.specs.declared.fault.JournalFault.TheVariants.{BadRecord, CutShort, Memory}
 use Rattle.journal.specs.Texts.{Spelling, version_2, Batch, batches_in, batch_records}
 use Rattle.statement_codec.specs.Statements.{kind_byte}
 use Rattle.journal.specs.WellFormed.{IsWellFormedFor, AreWellFormedFor, AreBatches}
@@ -50,18 +50,12 @@ pub record HasBytes (s : Statement) (kind question origin round step value : ℕ
   pub place_is : s.place ≡ new_place question origin round step
   pub value_is : value_code s.value ≡ value
 
--- why bytes behind a header were refused: by want of memory, or so
+-- why bytes behind a header were refused: by want of memory, or by what is wrong behind batches
 abbrev pub BreaksIn : Spelling → Header → JournalFault → List ℕ → Type 0
-BreaksIn spelling header NotEmpty bytes = ⊥
-BreaksIn spelling header BadHeader bytes = ⊥
-BreaksIn spelling header OtherHeader bytes = ⊥
-BreaksIn spelling header BadRecord bytes = StumblesIn spelling header (IsBadIn spelling header) bytes
-BreaksIn spelling header CutShort bytes = StumblesIn spelling header (IsCutIn spelling) bytes
-BreaksIn spelling header Device bytes = ⊥
-BreaksIn spelling header Memory bytes = Unit {0}
-BreaksIn spelling header Stopped bytes = ⊥
-BreaksIn spelling header Full bytes = ⊥
-BreaksIn spelling header OldVersion bytes = ⊥
+BreaksIn spelling header fault bytes =
+    (fault ≡ Memory)
+    ⊎ ((fault ≡ CutShort) × StumblesIn spelling header (IsCutIn spelling) bytes)
+    ⊎ ((fault ≡ BadRecord) × StumblesIn spelling header (IsBadIn spelling header) bytes)
 
 -- the same in the spelling of version 2
 abbrev pub TakesBatches : Header → List ℕ → List Record → List ℕ → Type 0

@@ -47,7 +47,7 @@ pub record Spelling : Type 0 where
   pub width : ℕ
   pub bytes : Record → List ℕ
 
--- each record in as many, 1 to 255
+-- each record takes as many bytes, 1 to 255
 pub record HasWidth (spelling : Spelling) : Type 0 where
   pub some : 0 < spelling.width
   pub few : spelling.width ≤ 255

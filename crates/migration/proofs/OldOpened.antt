@@ -1,12 +1,11 @@
 -- A file of version 1 that is read.
 use Rattle.std.proofs.Common.{◌≡◌, ◌⊎◌, inl, inr, ℕ, ◌≤◌, true, List, [], ◌∷◌, ◌++◌, length, take, drop, refl, sym, ◌∙◌, ap, subst, arith, append_assoc, length-append, take-append-drop, take_at, take-take}
 use Rattle.terms_prelude.specs.Terms.{Record, Header}
-use Rattle.migration.specs.Words.{Memory, Batch, batch_records, batches_in, version_1, AreBatches, IsWellFormedFor, AreWellFormedFor, HoldsOld, old_header_text, IsOldHeader, HasOldHeader, GoesOldWrong, RefusesOld, IsOfOldFile, ReadsIn, StumblesIn, BreaksIn, old_fault_of}
+use Rattle.migration.specs.Words.{Memory, Batch, batch_records, batches_in, version_1, AreBatches, IsWellFormedFor, AreWellFormedFor, HoldsOld, old_header_text, IsOldHeader, IsBadIn, IsCutIn, HasOldHeader, GoesOldWrong, RefusesOld, IsOfOldFile, ReadsIn, StumblesIn, BreaksIn, old_fault_of}
 use Rattle.journal.proofs.Headers.{header_eq, same_by}
 use Rattle.journal.proofs.Texts.{all-append}
 use Rattle.journal.specs.File.{IsOldVersion}
 use Rattle.journal.specs.declared.fault.JournalFault.{JournalFault}
-use Rattle.journal.specs.declared.fault.JournalFault.TheVariants as journal
 use Rattle.migration.proofs.OldHeaders.{mark_of}
 use Rattle.migration.proofs.OldTexts.{length-header_text}
 
@@ -63,29 +62,18 @@ wrong_from file behind header IsWrong has is stumbles = record {
 }
 
 pub refused_from : (file behind : List ℕ) (header : Header) (fault : JournalFault) → HasOldHeader header file → behind ≡ drop 24 file → BreaksIn version_1 header fault behind → IsOfOldFile (old_fault_of fault) → RefusesOld header (old_fault_of fault) file
-refused_from file behind header journal.NotEmpty has is breaks of_file = absurd breaks
-refused_from file behind header journal.BadHeader has is breaks of_file = absurd breaks
-refused_from file behind header journal.OtherHeader has is breaks of_file = absurd breaks
-refused_from file behind header journal.BadRecord has is breaks of_file = wrong_from file behind header _ has is breaks
-refused_from file behind header journal.CutShort has is breaks of_file = wrong_from file behind header _ has is breaks
-refused_from file behind header journal.Device has is breaks of_file = absurd breaks
-refused_from file behind header journal.Memory has is breaks of_file = absurd of_file
-refused_from file behind header journal.Stopped has is breaks of_file = absurd breaks
-refused_from file behind header journal.Full has is breaks of_file = absurd breaks
-refused_from file behind header journal.OldVersion has is breaks of_file = absurd breaks
+refused_from file behind header fault has is (inl memory) of_file =
+    absurd (subst (λ (f : JournalFault). IsOfOldFile (old_fault_of f)) memory of_file)
+refused_from file behind header fault has is (inr (inl cut)) of_file =
+    subst (λ (f : JournalFault). RefusesOld header (old_fault_of f) file) (sym cut.0) (wrong_from file behind header (IsCutIn version_1) has is cut.1)
+refused_from file behind header fault has is (inr (inr bad)) of_file =
+    subst (λ (f : JournalFault). RefusesOld header (old_fault_of f) file) (sym bad.0) (wrong_from file behind header (IsBadIn version_1 header) has is bad.1)
 
 -- and it is a fault of the file, or want of memory
 pub broken_so : (header : Header) (behind : List ℕ) (fault : JournalFault) → BreaksIn version_1 header fault behind → IsOfOldFile (old_fault_of fault) ⊎ (old_fault_of fault ≡ Memory)
-broken_so header behind journal.NotEmpty breaks = absurd breaks
-broken_so header behind journal.BadHeader breaks = absurd breaks
-broken_so header behind journal.OtherHeader breaks = absurd breaks
-broken_so header behind journal.BadRecord breaks = inl tt
-broken_so header behind journal.CutShort breaks = inl tt
-broken_so header behind journal.Device breaks = absurd breaks
-broken_so header behind journal.Memory breaks = inr refl
-broken_so header behind journal.Stopped breaks = absurd breaks
-broken_so header behind journal.Full breaks = absurd breaks
-broken_so header behind journal.OldVersion breaks = absurd breaks
+broken_so header behind fault (inl memory) = inr (ap old_fault_of memory)
+broken_so header behind fault (inr (inl cut)) = inl (subst (λ (f : JournalFault). IsOfOldFile (old_fault_of f)) (sym cut.0) tt)
+broken_so header behind fault (inr (inr bad)) = inl (subst (λ (f : JournalFault). IsOfOldFile (old_fault_of f)) (sym bad.0) tt)
 
 -- a file that begins with a header is of version 1
 pub is_named : (h : Header) (file : List ℕ) → HasOldHeader h file → IsOldVersion file
