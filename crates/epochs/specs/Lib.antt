@@ -1,3 +1,5 @@
 pub mod Verdicts
 pub mod Lines
 pub mod Opens
+pub mod Asking
+pub mod Asks

@@ -11,7 +11,7 @@ use Rattle.epochs.specs.declared.state.State.{State}
 pub record IsKnown (state : State) (known : Known) : Type 0 where
   pub newest : known.newest ≡ state.newest
   pub undone : known.undone.now ≡ state.undone.items
-  pub asks : known.asks.now ≡ state.asks.items
+  pub asks : known.asks.now ≡ state.asks.list.items
 
 -- by the chain's rule the epoch is open, and its journal wasn't put away
 pub record MayRun (chain : Chain) (state : State) (epoch : ℕ) : Type 0 where

@@ -157,7 +157,7 @@ impl Switchboard {
         };
         let mut state = self.state.lock(rt);
         if peer != self.me {
-            state.ask(Ask { peer, epoch });
+            let _unheard = state.ask(Ask { peer, epoch }).is_err();
         }
         match state.place_of(&self.chain, epoch) {
             Place::Runs(doors) => doors.links.put(rt, arrival),

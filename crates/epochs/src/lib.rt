@@ -5,6 +5,7 @@
 //! runs. [`slot_line`] reads the slot of a client's line.
 #![tactic(auto)]
 
+mod asks;
 mod board;
 mod inbox;
 mod said;

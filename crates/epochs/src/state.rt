@@ -1,13 +1,17 @@
 //! The state that the switchboard guards: begin at `State`.
 
-ghost use Rattle.std.specs.Prelude.{ℕ, ◌≡◌, ◌⊎◌, ◌<◌, Bool, false, None, Some, IfSome, IsTrue, length, map, slice_get};
+ghost use Rattle.std.specs.Prelude.{ℕ, ◌≡◌, ◌⊎◌, ◌<◌, ◌≤◌, Bool, false, None, Some, Contains, IfSome, IsTrue, OnOk, length, map, slice_get};
 ghost use Rattle.chain.specs.Opening.{IsOpenEpoch};
 ghost use Rattle.chain.specs.Slots.{chain_size};
 ghost use Rattle.chain.specs.declared.opening.Known.{Known};
+ghost use Rattle.epochs.specs.Asking.{HasFewAsks, asks_by};
+ghost use Rattle.epochs.specs.Asks.{heard_since, not_asked, standing, tells_next};
 ghost use Rattle.epochs.specs.Opens.{IsDue, IsKnown, MayRun, least, first_open, runs};
 ghost use Rattle.epochs.specs.Verdicts.{verdict_at};
+ghost use Rattle.epochs.specs.declared.asks.TheConstants.{ASKS};
 ghost use Rattle.epochs.specs.declared.board.Stored.TheVariants.{Decided};
 
+use crate::asks::Asks;
 use crate::board::{Doors, Report, Stored};
 use crate::inbox::Arrival;
 use crate::verdicts::Verdicts;
@@ -38,12 +42,6 @@ const OWN: usize = 2;
 
 /// The epochs past the newest for which a proposal is taken.
 const AHEAD: u64 = 64;
-
-/// The most epochs for which one peer asks at once.
-const ASKS: usize = 2;
-
-/// The seconds for which an ask stands.
-const ASKING: u64 = 5;
 
 /// The most connections that wait for epochs that don't run yet.
 const PARKED: usize = 128;
@@ -106,10 +104,7 @@ pub(crate) struct State {
     running: Vec<Running>,
     /// The epochs behind the newest that aren't done.
     undone: Vec<u64>,
-    asks: Vec<Ask>,
-    /// The second in which each of these was heard last.
-    heard: Vec<u64>,
-    second: u64,
+    asks: Asks,
     parked: Vec<Parked>,
     alloc: Global,
 }
@@ -123,9 +118,7 @@ impl State {
             verdicts: Vec::new(alloc),
             running: Vec::new(alloc),
             undone: Vec::new(alloc),
-            asks: Vec::new(alloc),
-            heard: Vec::new(alloc),
-            second: 0,
+            asks: Asks::new(alloc),
             parked: Vec::new(alloc),
             alloc,
         }
@@ -154,19 +147,21 @@ impl State {
     }
 
     /// A peer asks for an epoch, at most for two at once. It is to ask again within five seconds.
-    pub(crate) fn ask(&mut self, ask: Ask) {
-        let at = self.asks.iter().position(|one| *one == ask);
-        if let Some(heard) = at.and_then(|at| self.heard.get_mut(at)) {
-            *heard = self.second;
-            return;
-        }
-        let asked = self.asks.iter().filter(|one| one.peer == ask.peer).count();
-        if asked < ASKS && self.heard.push(self.second).is_ok() {
-            if self.asks.push(ask).is_err() {
-                let _unheard = self.heard.pop();
-            }
-            self.change();
-        }
+    pub(crate) fn ask(&mut self, ask: Ask) -> Result<(), Memory>
+        ensures few { HasFewAsks self.new.asks.list.items }
+        ensures again { Contains self.old.asks.list.items ask →
+            Contains (standing self.new.asks) (ask, self.old.asks.second) }
+        ensures taken { OnOk result ((ASKS ≤ asks_by self.old.asks.list.items ask.peer)
+            ⊎ Contains (standing self.new.asks) (ask, self.old.asks.second)) }
+        ensures others { not_asked ask (standing self.new.asks)
+            ≡ not_asked ask (standing self.old.asks) }
+        ensures rest { self.new ≡ record self.old {
+          asks = self.new.asks;
+          changes = self.new.changes;
+        } }
+    {
+        self.change();
+        self.asks.hear(ask)
     }
 
     /// Returns the place to which a connection of the epoch goes.
@@ -193,7 +188,12 @@ impl State {
         if let Some(epoch) = self.due_to_make_up(chain) {
             return Some(epoch);
         }
-        match self.asks.iter().find(|ask| self.is_due(chain, ask.epoch)) {
+        match self
+            .asks
+            .list()
+            .iter()
+            .find(|ask| self.is_due(chain, ask.epoch))
+        {
             Some(ask) => Some(ask.epoch),
             None => None,
         }
@@ -299,7 +299,7 @@ impl State {
     /// The epoch has ended. Those that wait at its doors wait for it to run again, unless its
     /// journal was put away: then they are closed.
     pub(crate) fn leave<R: Wait>(&mut self, rt: &R, epoch: u64, verdicts: Verdicts) {
-        self.forget_asks(epoch);
+        self.asks.forget_epoch(epoch);
         if let Some(cell) = self.verdicts.get_mut(epoch as usize) {
             *cell = verdicts;
         }
@@ -359,7 +359,7 @@ impl State {
             self.advance(epoch);
         }
         if is_quiet {
-            self.forget_asks(epoch);
+            self.asks.forget_epoch(epoch);
         }
         if report.is_undone || !is_quiet {
             self.call(epoch);
@@ -375,39 +375,19 @@ impl State {
     }
 
     /// A second has passed: who asked too long ago doesn't ask any more.
-    fn tick(&mut self) {
-        self.second = self.second.saturating_add(1);
-        let oldest = self.second.saturating_sub(ASKING);
-        for _ in 0..self.asks.len() {
-            match self.heard.iter().position(|heard| *heard < oldest) {
-                Some(at) => self.forget_at(at),
-                None => return,
-            }
-        }
+    fn tick(&mut self)
+        ensures second { self.new.asks.second ≡ tells_next self.old.asks.second }
+        ensures asks { standing self.new.asks
+            ≡ heard_since self.new.asks.second (standing self.old.asks) }
+        ensures rest { self.new ≡ record self.old { asks = self.new.asks } }
+    {
+        self.asks.tick();
     }
 
     /// The same, to be changed.
     fn running_mut(&mut self, epoch: u64) -> Option<&mut Running> {
         let at = self.running.iter().position(|one| one.epoch == epoch)?;
         self.running.get_mut(at)
-    }
-
-    /// Nobody asks for the epoch any more.
-    fn forget_asks(&mut self, epoch: u64) {
-        for _ in 0..self.asks.len() {
-            match self.asks.iter().position(|ask| ask.epoch == epoch) {
-                Some(at) => self.forget_at(at),
-                None => return,
-            }
-        }
-    }
-
-    /// Forgets what is asked at this place.
-    fn forget_at(&mut self, at: usize) {
-        if at < self.asks.len() && at < self.heard.len() {
-            self.asks.remove(at);
-            self.heard.remove(at);
-        }
     }
 
     /// The epoch is done.
@@ -449,7 +429,9 @@ impl State {
     }
 
     /// Something has changed.
-    pub(crate) fn change(&mut self) {
+    pub(crate) fn change(&mut self)
+        ensures rest { self.new ≡ record self.old { changes = self.new.changes } }
+    {
         self.changes = self.changes.wrapping_add(1);
     }
 
@@ -468,7 +450,7 @@ impl State {
         Known {
             newest: self.newest,
             undone: self.undone.as_slice(),
-            asks: self.asks.as_slice(),
+            asks: self.asks.list(),
         }
     }
 

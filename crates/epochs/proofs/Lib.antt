@@ -1,0 +1,3 @@
+pub mod Standing
+pub mod AskLemmas
+pub mod Forgetting
