@@ -1,5 +1,5 @@
 -- The asks of peers for epochs.
-use Rattle.std.specs.Prelude.{ℕ, suc, ◌≤◌, ◌==◌, ◌&&◌, Bool, List, ◌++◌, Option, count_by, filter, take, drop, position}
+use Rattle.std.specs.Prelude.{ℕ, suc, ◌+◌, min, ◌≤◌, ◌==◌, ◌&&◌, Bool, List, ◌++◌, Option, count_by, filter, take, drop, position}
 use Rattle.chain.specs.declared.opening.Ask.{Ask}
 use Rattle.epochs.specs.declared.asks.TheConstants.{ASKS}
 
@@ -22,3 +22,7 @@ HasFewAsks asks = (peer : ℕ) → asks_by asks peer ≤ ASKS
 -- a list without the one at this place, unless it passes
 abbrev pub tested_at : {X : Type 0} → (X → Bool) → ℕ → List X → List X
 tested_at test at all = take at all ++ (filter test (take 1 (drop at all)) ++ drop (suc at) all)
+
+-- the second behind this one; a clock that is full stands still
+abbrev pub tells_next : ℕ → ℕ
+tells_next second = min (second + 1) 18446744073709551615

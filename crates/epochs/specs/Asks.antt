@@ -1,5 +1,5 @@
 -- The asks that stand.
-use Rattle.std.specs.Prelude.{ℕ, ◌+◌, ◌==◌, Bool, not, List, filter, zip, min, nat_le, nat_lt}
+use Rattle.std.specs.Prelude.{ℕ, ◌+◌, ◌==◌, Bool, not, List, filter, zip, nat_le, nat_lt}
 use Rattle.chain.specs.declared.opening.Ask.{Ask}
 use Rattle.epochs.specs.declared.asks.Asks.{Asks}
 use Rattle.epochs.specs.declared.asks.Gone.{Gone}
@@ -22,10 +22,6 @@ not_for epoch all = filter (λ one. not (one.0.epoch == epoch)) all
 -- those that in this second were heard within five seconds
 abbrev pub heard_since : ℕ → List (Ask × ℕ) → List (Ask × ℕ)
 heard_since second all = filter (λ one. nat_le second (one.1 + ASKING)) all
-
--- the second behind this one; a clock that is full stands still
-abbrev pub tells_next : ℕ → ℕ
-tells_next second = min (second + 1) 18446744073709551615
 
 -- whether an ask isn't one of those to be forgotten
 abbrev pub stays : Gone → (Ask × ℕ) → Bool

@@ -3,3 +3,4 @@ pub mod Lines
 pub mod Opens
 pub mod Asking
 pub mod Asks
+pub mod Reports

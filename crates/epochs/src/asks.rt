@@ -1,7 +1,7 @@
 //! The asks of a member's peers for epochs: begin at `Asks`.
 
 ghost use Rattle.std.specs.Prelude.{◌≡◌, length};
-ghost use Rattle.epochs.specs.Asking.{HasFewAsks, asks_by, place_of, tested_at};
+ghost use Rattle.epochs.specs.Asking.{HasFewAsks, asks_by, place_of, tells_next, tested_at};
 
 use chain::Ask;
 use std::alloc::Global;
@@ -26,8 +26,8 @@ pub(crate) struct Asks {
 }
 
 impl Asks {
-    ghost use Rattle.std.specs.Prelude.{[], ◌⊎◌, ◌<◌, ◌≤◌, Contains, OnOk, filter, None, Some};
-    ghost use Rattle.epochs.specs.Asks.{heard_since, not_asked, not_for, standing, stays, tells_next};
+    ghost use Rattle.std.specs.Prelude.{[], ◌⊎◌, ◌<◌, ◌≤◌, Contains, OnOk, filter, None, Some, if◌then◌else◌};
+    ghost use Rattle.epochs.specs.Asks.{heard_since, not_asked, not_for, standing, stays};
 
     /// Nobody asks.
     pub(crate) fn new(alloc: Global) -> Asks
@@ -109,6 +109,17 @@ impl Asks {
         ensures asks { standing self.new ≡ not_for epoch (standing self.old) }
     {
         self.forget(Gone::For(epoch));
+    }
+
+    /// The same, if this is `true`.
+    pub(crate) fn forget_epoch_if(&mut self, is_done: bool, epoch: u64)
+        ensures second { self.new.second ≡ self.old.second }
+        ensures asks { standing self.new ≡ (if is_done
+            then not_for epoch (standing self.old) else standing self.old) }
+    {
+        if is_done {
+            self.forget_epoch(epoch);
+        }
     }
 
     /// Forgets these asks.

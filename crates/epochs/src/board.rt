@@ -1,7 +1,8 @@
 //! The switchboard of a process: begin at `Switchboard`.
 
 use crate::inbox::{Arrival, Inbox};
-use crate::state::{Place, Running, State};
+use crate::running::Running;
+use crate::state::{Place, State};
 use crate::verdicts::Verdicts;
 use chain::{Ask, Chain};
 use std::alloc::Global;

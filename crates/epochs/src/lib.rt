@@ -8,6 +8,7 @@
 mod asks;
 mod board;
 mod inbox;
+mod running;
 mod said;
 mod state;
 mod turning;
