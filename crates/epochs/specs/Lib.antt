@@ -1,3 +1,6 @@
 pub mod Verdicts
 pub mod Lines
 pub mod Opens
+pub mod Asking
+pub mod Asks
+pub mod Reports

@@ -1,17 +1,23 @@
 -- Which epochs run, and which are closed.
-use Rattle.std.specs.Prelude.{ℕ, ◌≡◌, ◌<◌, ◌==◌, Bool, List, [], ◌∷◌, false, length, map, min, slice_get, IfSome}
+use Rattle.std.specs.Prelude.{ℕ, ◌≡◌, ◌<◌, ◌==◌, Bool, List, [], ◌∷◌, false, length, map, min, slice_get, IfSome, if◌then◌else◌}
 use Rattle.std.specs.List.{list_any}
+use Rattle.std.specs.Option.{option_map_or}
 use Rattle.chain.specs.Opening.{IsOpenEpoch}
 use Rattle.chain.specs.Slots.{chain_size}
 use Rattle.chain.specs.declared.opening.Known.{Known}
 use Rattle.chain.specs.declared.slots.Chain.{Chain}
+use Rattle.chain.specs.declared.opening.Ask.{Ask}
+use Rattle.epochs.specs.declared.board.Report.{Report}
 use Rattle.epochs.specs.declared.state.State.{State}
+use Rattle.epochs.specs.Asking.{tells_next}
+use Rattle.epochs.specs.Asks.{heard_since, standing}
+use Rattle.epochs.specs.Reports.{is_quiet, running_in}
 
 -- what the state says of the chain
 pub record IsKnown (state : State) (known : Known) : Type 0 where
   pub newest : known.newest ≡ state.newest
   pub undone : known.undone.now ≡ state.undone.items
-  pub asks : known.asks.now ≡ state.asks.items
+  pub asks : known.asks.now ≡ state.asks.list.items
 
 -- by the chain's rule the epoch is open, and its journal wasn't put away
 pub record MayRun (chain : Chain) (state : State) (epoch : ℕ) : Type 0 where
@@ -35,3 +41,12 @@ least first (epoch ∷ epochs) = least (min first epoch) epochs
 -- the first epoch that isn't closed: the newest, or one before it that runs or isn't done
 abbrev pub first_open : State → ℕ
 first_open state = least (least state.newest (map (λ one. one.epoch) state.running.items)) state.undone.items
+
+-- the asks that stand once an epoch has told a second, which the newest tells for all
+abbrev pub ticked : State → ℕ → List (Ask × ℕ)
+ticked state epoch =
+    if epoch == state.newest then heard_since (tells_next state.asks.second) (standing state.asks) else standing state.asks
+
+-- the epoch runs, and nothing has happened in it for so long that it may be done
+abbrev pub has_gone_quiet : Report → State → ℕ → Bool
+has_gone_quiet report state epoch = option_map_or (λ one. is_quiet report one.quiet) (running_in state.running.items epoch) false

@@ -1,7 +1,8 @@
 //! The switchboard of a process: begin at `Switchboard`.
 
 use crate::inbox::{Arrival, Inbox};
-use crate::state::{Place, Running, State};
+use crate::running::Running;
+use crate::state::{Place, State};
 use crate::verdicts::Verdicts;
 use chain::{Ask, Chain};
 use std::alloc::Global;
@@ -157,7 +158,7 @@ impl Switchboard {
         };
         let mut state = self.state.lock(rt);
         if peer != self.me {
-            state.ask(Ask { peer, epoch });
+            let _unheard = state.ask(Ask { peer, epoch }).is_err();
         }
         match state.place_of(&self.chain, epoch) {
             Place::Runs(doors) => doors.links.put(rt, arrival),

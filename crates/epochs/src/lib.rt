@@ -5,8 +5,10 @@
 //! runs. [`slot_line`] reads the slot of a client's line.
 #![tactic(auto)]
 
+mod asks;
 mod board;
 mod inbox;
+mod running;
 mod said;
 mod state;
 mod turning;

@@ -1,30 +1,28 @@
 //! The state that the switchboard guards: begin at `State`.
 
-ghost use Rattle.std.specs.Prelude.{ℕ, ◌≡◌, ◌⊎◌, ◌<◌, Bool, false, None, Some, IfSome, IsTrue, length, map, slice_get};
+ghost use Rattle.std.specs.Prelude.{ℕ, ◌≡◌, ◌≢◌, ◌⊎◌, ◌<◌, ◌≤◌, ◌==◌, ◌&&◌, Bool, true, false, not, max, None, Some, Contains, IfSome, IsTrue, OnOk, filter, if◌then◌else◌, length, map, slice_get};
+ghost use Rattle.std.specs.Option.{option_map, option_map_or};
 ghost use Rattle.chain.specs.Opening.{IsOpenEpoch};
 ghost use Rattle.chain.specs.Slots.{chain_size};
 ghost use Rattle.chain.specs.declared.opening.Known.{Known};
-ghost use Rattle.epochs.specs.Opens.{IsDue, IsKnown, MayRun, least, first_open, runs};
+ghost use Rattle.epochs.specs.Asking.{HasFewAsks, asks_by, tells_next};
+ghost use Rattle.epochs.specs.Asks.{heard_since, not_asked, not_for, standing};
+ghost use Rattle.epochs.specs.Opens.{IsDue, IsKnown, MayRun, first_open, has_gone_quiet, least, runs, ticked};
+ghost use Rattle.epochs.specs.Reports.{noted, running_in};
 ghost use Rattle.epochs.specs.Verdicts.{verdict_at};
+ghost use Rattle.epochs.specs.declared.asks.TheConstants.{ASKS};
 ghost use Rattle.epochs.specs.declared.board.Stored.TheVariants.{Decided};
 
+use crate::asks::Asks;
 use crate::board::{Doors, Report, Stored};
 use crate::inbox::Arrival;
+use crate::running::{QUIET, Running, is_quiet, note_report};
 use crate::verdicts::Verdicts;
 use chain::{Ask, Chain, Known};
 use std::alloc::Global;
 use std::mem;
 use std::sync::Wait;
 use terms::Memory;
-
-/// The seconds without progress after which an epoch behind the newest may end.
-const QUIET: u64 = 10;
-
-/// The same of one whose questions are all decided.
-const COMPLETE: u64 = 2;
-
-/// The seconds without progress after which nobody is dialled any more that doesn't dial.
-const RESTING: u64 = 5;
 
 /// The most epochs that begin to run while others do.
 const MOST: usize = 32;
@@ -39,51 +37,8 @@ const OWN: usize = 2;
 /// The epochs past the newest for which a proposal is taken.
 const AHEAD: u64 = 64;
 
-/// The most epochs for which one peer asks at once.
-const ASKS: usize = 2;
-
-/// The seconds for which an ask stands.
-const ASKING: u64 = 5;
-
 /// The most connections that wait for epochs that don't run yet.
 const PARKED: usize = 128;
-
-/// An epoch that runs.
-#[derive(Drop)]
-pub(crate) struct Running {
-    epoch: u64,
-    doors: Doors,
-    is_ready: bool,
-    /// The progress that was reported last, and for how many seconds it has been so.
-    progress: u64,
-    quiet: u64,
-    /// Nothing of it is open here, and nothing happens in it or all its questions are decided.
-    rests: bool,
-}
-
-impl Running {
-    /// An epoch with these doors, which begins to run.
-    pub(crate) fn new(epoch: u64, doors: Doors) -> Running {
-        Running {
-            epoch,
-            doors,
-            is_ready: false,
-            progress: 0,
-            quiet: 0,
-            rests: false,
-        }
-    }
-
-    /// Notes the progress of another second.
-    fn note(&mut self, progress: u64) {
-        if self.progress == progress {
-            self.quiet = self.quiet.saturating_add(1);
-        } else {
-            self.quiet = 0;
-            self.progress = progress;
-        }
-    }
-}
 
 /// The place to which a connection goes.
 pub(crate) enum Place<'a> {
@@ -106,10 +61,7 @@ pub(crate) struct State {
     running: Vec<Running>,
     /// The epochs behind the newest that aren't done.
     undone: Vec<u64>,
-    asks: Vec<Ask>,
-    /// The second in which each of these was heard last.
-    heard: Vec<u64>,
-    second: u64,
+    asks: Asks,
     parked: Vec<Parked>,
     alloc: Global,
 }
@@ -123,9 +75,7 @@ impl State {
             verdicts: Vec::new(alloc),
             running: Vec::new(alloc),
             undone: Vec::new(alloc),
-            asks: Vec::new(alloc),
-            heard: Vec::new(alloc),
-            second: 0,
+            asks: Asks::new(alloc),
             parked: Vec::new(alloc),
             alloc,
         }
@@ -154,19 +104,21 @@ impl State {
     }
 
     /// A peer asks for an epoch, at most for two at once. It is to ask again within five seconds.
-    pub(crate) fn ask(&mut self, ask: Ask) {
-        let at = self.asks.iter().position(|one| *one == ask);
-        if let Some(heard) = at.and_then(|at| self.heard.get_mut(at)) {
-            *heard = self.second;
-            return;
-        }
-        let asked = self.asks.iter().filter(|one| one.peer == ask.peer).count();
-        if asked < ASKS && self.heard.push(self.second).is_ok() {
-            if self.asks.push(ask).is_err() {
-                let _unheard = self.heard.pop();
-            }
-            self.change();
-        }
+    pub(crate) fn ask(&mut self, ask: Ask) -> Result<(), Memory>
+        ensures few { HasFewAsks self.new.asks.list.items }
+        ensures again { Contains self.old.asks.list.items ask →
+            Contains (standing self.new.asks) (ask, self.old.asks.second) }
+        ensures taken { OnOk result ((ASKS ≤ asks_by self.old.asks.list.items ask.peer)
+            ⊎ Contains (standing self.new.asks) (ask, self.old.asks.second)) }
+        ensures others { not_asked ask (standing self.new.asks)
+            ≡ not_asked ask (standing self.old.asks) }
+        ensures rest { self.new ≡ record self.old {
+          asks = self.new.asks;
+          changes = self.new.changes;
+        } }
+    {
+        self.change();
+        self.asks.hear(ask)
     }
 
     /// Returns the place to which a connection of the epoch goes.
@@ -193,7 +145,12 @@ impl State {
         if let Some(epoch) = self.due_to_make_up(chain) {
             return Some(epoch);
         }
-        match self.asks.iter().find(|ask| self.is_due(chain, ask.epoch)) {
+        match self
+            .asks
+            .list()
+            .iter()
+            .find(|ask| self.is_due(chain, ask.epoch))
+        {
             Some(ask) => Some(ask.epoch),
             None => None,
         }
@@ -299,7 +256,7 @@ impl State {
     /// The epoch has ended. Those that wait at its doors wait for it to run again, unless its
     /// journal was put away: then they are closed.
     pub(crate) fn leave<R: Wait>(&mut self, rt: &R, epoch: u64, verdicts: Verdicts) {
-        self.forget_asks(epoch);
+        self.asks.forget_epoch(epoch);
         if let Some(cell) = self.verdicts.get_mut(epoch as usize) {
             *cell = verdicts;
         }
@@ -345,83 +302,153 @@ impl State {
 
     /// Notes how an epoch stands that runs. One without progress for ten seconds is done if nothing
     /// of it is open here, and nobody asks for it any more. Returns `true` if it rests.
-    pub(crate) fn report(&mut self, epoch: u64, report: Report) -> bool {
+    pub(crate) fn report(&mut self, epoch: u64, report: Report) -> bool
+        ensures noted { running_in self.new.running.items epoch
+            ≡ option_map (noted report) (running_in self.old.running.items epoch) }
+        ensures others { (other : ℕ) → other ≢ epoch → running_in self.new.running.items other
+            ≡ running_in self.old.running.items other }
+        ensures rests { result
+            ≡ option_map_or (λ one. one.rests) (running_in self.new.running.items epoch) false }
+        ensures newest { self.new.newest ≡ (if runs self.old epoch && report.is_begun
+            then max self.old.newest epoch else self.old.newest) }
+        ensures asks { standing self.new.asks ≡ (if has_gone_quiet report self.new epoch
+            then not_for epoch (ticked self.old epoch) else ticked self.old epoch) }
+        ensures undone { (other : ℕ) → other ≢ epoch → Contains self.old.undone.items other →
+            Contains self.new.undone.items other }
+        ensures open { report.is_undone ≡ true → Contains self.old.undone.items epoch →
+            Contains self.new.undone.items epoch }
+        ensures busy { has_gone_quiet report self.new epoch ≡ false →
+            Contains self.old.undone.items epoch → Contains self.new.undone.items epoch }
+        ensures done { report.is_undone ≡ false → has_gone_quiet report self.new epoch ≡ true →
+            Contains self.new.undone.items epoch → ⊥ }
+        ensures rest { self.new ≡ record self.old {
+          newest = self.new.newest;
+          changes = self.new.changes;
+          running = self.new.running;
+          undone = self.new.undone;
+          asks = self.new.asks;
+        } }
+    {
+        self.tell_second(epoch);
+        match note_report(&mut self.running, epoch, report) {
+            Some((quiet, rests)) => {
+                self.settle(epoch, report, is_quiet(report, quiet));
+                rests
+            }
+            None => false,
+        }
+    }
+
+    /// A second has passed in the epoch, whose clock tells that of all if it is the newest.
+    fn tell_second(&mut self, epoch: u64)
+        ensures asks { standing self.new.asks ≡ ticked self.old epoch }
+        ensures rest { self.new ≡ record self.old { asks = self.new.asks } }
+    {
         if epoch == self.newest {
             self.tick();
         }
-        let Some(running) = self.running_mut(epoch) else {
-            return false;
-        };
-        running.note(report.progress);
-        let quiet = running.quiet;
-        let is_quiet = quiet >= if report.is_complete { COMPLETE } else { QUIET };
-        if report.is_begun {
-            self.advance(epoch);
-        }
-        if is_quiet {
-            self.forget_asks(epoch);
-        }
-        if report.is_undone || !is_quiet {
-            self.call(epoch);
-        } else {
-            self.finish(epoch);
-        }
-        let rests = !report.is_undone && (report.is_complete || quiet >= RESTING);
-        if let Some(running) = self.running_mut(epoch) {
-            running.rests = rests;
-        }
-        self.change();
-        rests
     }
 
     /// A second has passed: who asked too long ago doesn't ask any more.
-    fn tick(&mut self) {
-        self.second = self.second.saturating_add(1);
-        let oldest = self.second.saturating_sub(ASKING);
-        for _ in 0..self.asks.len() {
-            match self.heard.iter().position(|heard| *heard < oldest) {
-                Some(at) => self.forget_at(at),
-                None => return,
-            }
+    fn tick(&mut self)
+        ensures second { self.new.asks.second ≡ tells_next self.old.asks.second }
+        ensures asks { standing self.new.asks
+            ≡ heard_since self.new.asks.second (standing self.old.asks) }
+        ensures rest { self.new ≡ record self.old { asks = self.new.asks } }
+    {
+        self.asks.tick();
+    }
+
+    /// Notes what a report says of an epoch that runs.
+    fn settle(&mut self, epoch: u64, report: Report, is_quiet: bool)
+        ensures newest { self.new.newest ≡ (if report.is_begun
+            then max self.old.newest epoch else self.old.newest) }
+        ensures asks { standing self.new.asks ≡ (if is_quiet
+            then not_for epoch (standing self.old.asks) else standing self.old.asks) }
+        ensures undone { (other : ℕ) → other ≢ epoch → Contains self.old.undone.items other →
+            Contains self.new.undone.items other }
+        ensures open { report.is_undone ≡ true → Contains self.old.undone.items epoch →
+            Contains self.new.undone.items epoch }
+        ensures busy { is_quiet ≡ false → Contains self.old.undone.items epoch →
+            Contains self.new.undone.items epoch }
+        ensures done { report.is_undone ≡ false → is_quiet ≡ true →
+            Contains self.new.undone.items epoch → ⊥ }
+        ensures rest { self.new ≡ record self.old {
+          newest = self.new.newest;
+          changes = self.new.changes;
+          undone = self.new.undone;
+          asks = self.new.asks;
+        } }
+    {
+        self.begin_if(report.is_begun, epoch);
+        self.asks.forget_epoch_if(is_quiet, epoch);
+        self.set_done(epoch, !report.is_undone && is_quiet);
+        self.change();
+    }
+
+    /// The epoch has begun, if this is `true`.
+    fn begin_if(&mut self, is_begun: bool, epoch: u64)
+        ensures newest { self.new.newest ≡ (if is_begun
+            then max self.old.newest epoch else self.old.newest) }
+        ensures undone { (one : ℕ) → Contains self.old.undone.items one →
+            Contains self.new.undone.items one }
+        ensures rest { self.new ≡ record self.old {
+          newest = self.new.newest;
+          changes = self.new.changes;
+          undone = self.new.undone;
+        } }
+    {
+        if is_begun {
+            self.advance(epoch);
         }
     }
 
-    /// The same, to be changed.
+    /// The epoch is done, or somebody wants something of it.
+    fn set_done(&mut self, epoch: u64, is_done: bool)
+        ensures others { (other : ℕ) → other ≢ epoch → Contains self.old.undone.items other →
+            Contains self.new.undone.items other }
+        ensures open { is_done ≡ false → Contains self.old.undone.items epoch →
+            Contains self.new.undone.items epoch }
+        ensures done { is_done ≡ true → Contains self.new.undone.items epoch → ⊥ }
+        ensures rest { self.new ≡ record self.old {
+          changes = self.new.changes;
+          undone = self.new.undone;
+        } }
+    {
+        if is_done {
+            self.finish(epoch);
+        } else {
+            self.call(epoch);
+        }
+    }
+
+    /// The epoch is done.
+    fn finish(&mut self, epoch: u64)
+        ensures gone { self.new.undone.items
+            ≡ filter (λ one. not (one == epoch)) self.old.undone.items }
+        ensures rest { self.new ≡ record self.old { undone = self.new.undone } }
+    {
+        self.undone.retain(|one| *one != epoch);
+    }
+
+    /// Returns the epoch among those that run, to be changed.
     fn running_mut(&mut self, epoch: u64) -> Option<&mut Running> {
         let at = self.running.iter().position(|one| one.epoch == epoch)?;
         self.running.get_mut(at)
     }
 
-    /// Nobody asks for the epoch any more.
-    fn forget_asks(&mut self, epoch: u64) {
-        for _ in 0..self.asks.len() {
-            match self.asks.iter().position(|ask| ask.epoch == epoch) {
-                Some(at) => self.forget_at(at),
-                None => return,
-            }
-        }
-    }
-
-    /// Forgets what is asked at this place.
-    fn forget_at(&mut self, at: usize) {
-        if at < self.asks.len() && at < self.heard.len() {
-            self.asks.remove(at);
-            self.heard.remove(at);
-        }
-    }
-
-    /// The epoch is done.
-    fn finish(&mut self, epoch: u64) {
-        if let Some(at) = self.undone.iter().position(|one| *one == epoch) {
-            if at < self.undone.len() {
-                self.undone.remove(at);
-            }
-        }
-    }
-
     /// The member has a proposal or a decision in this epoch. Those that it left out are to be made
     /// up for.
-    pub(crate) fn advance(&mut self, epoch: u64) {
+    pub(crate) fn advance(&mut self, epoch: u64)
+        ensures newest { self.new.newest ≡ max self.old.newest epoch }
+        ensures undone { (one : ℕ) → Contains self.old.undone.items one →
+            Contains self.new.undone.items one }
+        ensures rest { self.new ≡ record self.old {
+          newest = self.new.newest;
+          changes = self.new.changes;
+          undone = self.new.undone;
+        } }
+    {
         let made = self.made();
         for missed in self.newest.saturating_add(1)..epoch.min(made) {
             self.call(missed);
@@ -441,7 +468,14 @@ impl State {
 
     /// The epoch isn't done: somebody wants something of it. One whose journal was put away stays
     /// done.
-    pub(crate) fn call(&mut self, epoch: u64) {
+    pub(crate) fn call(&mut self, epoch: u64)
+        ensures undone { (one : ℕ) → Contains self.old.undone.items one →
+            Contains self.new.undone.items one }
+        ensures rest { self.new ≡ record self.old {
+          changes = self.new.changes;
+          undone = self.new.undone;
+        } }
+    {
         if !self.is_gone(epoch) && !self.undone.contains(&epoch) {
             let _unheard = self.undone.push(epoch).is_err();
             self.change();
@@ -449,7 +483,9 @@ impl State {
     }
 
     /// Something has changed.
-    pub(crate) fn change(&mut self) {
+    pub(crate) fn change(&mut self)
+        ensures rest { self.new ≡ record self.old { changes = self.new.changes } }
+    {
         self.changes = self.changes.wrapping_add(1);
     }
 
@@ -468,7 +504,7 @@ impl State {
         Known {
             newest: self.newest,
             undone: self.undone.as_slice(),
-            asks: self.asks.as_slice(),
+            asks: self.asks.list(),
         }
     }
 

@@ -1,0 +1,6 @@
+pub mod Standing
+pub mod AskLemmas
+pub mod Forgetting
+pub mod Noting
+pub mod Undone
+pub mod Reporting

@@ -1,0 +1,8 @@
+use Rattle.epochs.proofs.Undone.{others_stay, it_goes}
+use Rattle.epochs.proofs.state.State.set_done.Goals as goal
+
+pub returns-then-is_done-clause-others : goal.returns-then-is_done-clause-others
+returns-then-is_done-clause-others c = others_stay c.args.epoch c.args.self.now.undone.items _ c.finish.ensures.gone
+
+pub returns-then-is_done-clause-done : goal.returns-then-is_done-clause-done
+returns-then-is_done-clause-done c = λ _. it_goes c.args.epoch c.args.self.now.undone.items _ c.finish.ensures.gone
