@@ -1,18 +1,18 @@
 -- What a call comes to that answers without a list: the records are those that were saved since.
-use Rattle.std.proofs.Common.{◌≡◌, ◌≢◌, ℕ, Result, Ok, Err, IfOk, IfErr, OnOk, OnErr, IsErrOf, Bool, true, List, ◌++◌, length, take, drop, refl, sym, ap, subst, ◌∙◌}
+use Rattle.std.proofs.Common.{◌≡◌, ◌≢◌, ℕ, Result, Ok, Err, IfOk, IfErr, OnOk, OnErr, IsErrOf, Bool, true, List, ◌++◌, length, take, drop, sym, ap, subst, ◌∙◌}
 use Rattle.std.proofs.Math.Seq.{take-append_seam, take-length}
 use Rattle.std.specs.Global.{Vec}
 use Rattle.terms_prelude.specs.Terms.{Header, Record, Event, Reply, records_of}
 use Rattle.disk.specs.declared.device.Disk.{Ghosts as DiskGhosts}
 use Rattle.journal.specs.Words.{AreWellFormedFor}
-use Rattle.world.specs.Words.{World, IsCorrect}
+use Rattle.world.specs.Words.{World}
 use Rattle.questions.specs.declared.Core.{Core}
 use Rattle.questions.specs.declared.answer.Heard.{Heard}
 use Rattle.questions.specs.declared.answer.CoreFault.{CoreFault}
 use Rattle.questions.specs.declared.answer.CoreFault.TheVariants as cores
 use Rattle.questions.specs.Replies.{reply_with, added}
 use Rattle.questions.proofs.Adding.{added_is}
-use Rattle.member.specs.Words.{MemberFault, Stopped, Device, Memory, JournalFull, NoSuchQuestion, NoSuchMember, Member, member_fault, Stops, Kept, KeptBehind, HasSaved, IsEventBy, LivesBy, MemberIsAt, Comes, Replies, DoesStep, world_step, member_disk, member_header, member_gate, member_saved, member_is_stopped, reply_saved}
+use Rattle.member.specs.Words.{MemberFault, Stopped, Device, Memory, JournalFull, NoSuchQuestion, NoSuchMember, Member, member_fault, Stops, Kept, KeptBehind, IsEventBy, LivesBy, Replies, DoesStep, world_step, member_disk, member_header, member_gate, member_saved, member_is_stopped, reply_saved}
 
 -- the reply of that outcome, whose records were appended to the first list
 abbrev pub heard_in : List Record → List Record → Heard → Reply
@@ -27,7 +27,8 @@ pub record HeardInto {D : Type 0} (old : Member D) (all : Vec Record) (before : 
   pub untouched : IfErr heard (λ e. e ≢ cores.Memory → all ≡ old.records)
 
 -- what was appended is what is behind the first so many
-behind_is : (first all : List Record) (before : ℕ) (heard : Heard) → before ≡ length first → all ≡ first ++ records_of (heard_in first all heard)
+behind_is : (first all : List Record) (before : ℕ) (heard : Heard) → before ≡ length first
+    → all ≡ first ++ records_of (heard_in first all heard)
     → drop before all ≡ records_of (heard_in first all heard)
 behind_is first all before heard count appends =
     ap (λ (n : ℕ). drop n all) count ∙ added_is first (records_of (heard_in first all heard)) all appends
@@ -53,7 +54,8 @@ formed_behind {old = old} {all = all} {before = before} {heard = Ok h} header in
 
 -- a fault that doesn't stop the member leaves its list
 untouched_by : {D : Type 0} (old : Member D) (all : Vec Record) (heard : Result Heard CoreFault) (result : Result Heard MemberFault)
-    → IfErr heard (λ e. e ≢ cores.Memory → all ≡ old.records) → IfErr heard (λ e. IsErrOf result (member_fault e)) → IfOk heard (λ _. IfErr result Stops)
+    → IfErr heard (λ e. e ≢ cores.Memory → all ≡ old.records) → IfErr heard (λ e. IsErrOf result (member_fault e))
+    → IfOk heard (λ _. IfErr result Stops)
     → IfErr result (λ f. (Stops f → ⊥) → all ≡ old.records)
 untouched_by old all heard (Ok h) left told stopping = tt
 untouched_by old all (Ok h) (Err f) left told stopping = λ goes_on. absurd (goes_on stopping)
@@ -63,10 +65,12 @@ untouched_by old all (Err cores.Memory) (Err f) left told stopping = λ goes_on.
 untouched_by old all (Err cores.Failed) (Err f) left told stopping = λ goes_on. let one : f ≡ Memory = cc in absurd (goes_on (subst Stops (sym one) tt))
 
 unchanged_by : {D : Type 0} (old : Member D) (core : Core) (all : Vec Record) (new : Member D) (result : Result Heard MemberFault)
-    → IfErr result (λ f. (Stops f → ⊥) → all ≡ old.records) → IfErr result (λ f. (Stops f → ⊥) → new ≡ record old { core = core; records = all })
+    → IfErr result (λ f. (Stops f → ⊥) → all ≡ old.records)
+    → IfErr result (λ f. (Stops f → ⊥) → new ≡ record old { core = core; records = all })
     → IfErr result (λ f. (Stops f → ⊥) → new ≡ record old { core = core })
 unchanged_by old core all new (Ok h) left changed = tt
-unchanged_by old core all new (Err f) left changed = λ goes_on. changed goes_on ∙ (λ i. record old { core = core; records = left goes_on i })
+unchanged_by old core all new (Err f) left changed =
+    λ goes_on. changed goes_on ∙ (λ i. record old { core = core; records = left goes_on i })
 
 -- what was kept of what a core answered into the member's list
 pub kept_into : {D : Type 0} {disk : DiskGhosts D} {old : Member D} {core : Core} {all : Vec Record} {before : ℕ} {heard : Result Heard CoreFault}
@@ -112,7 +116,8 @@ pub record IsNamed {A : Type 0} (result : Result A MemberFault) (f g : A → Rep
 -- the list is the member's own in the end
 pub same_reply : {D : Type 0} {disk : DiskGhosts D} {old : Member D} {core : Core} {all : Vec Record} {before : ℕ} {heard : Result Heard CoreFault}
     {result : Result Heard MemberFault} {new : Member D} → HeardInto old all before heard
-    → Kept disk old core (heard_in old.records.items all.items) heard result new → IsNamed result (heard_in old.records.items all.items) (reply_saved old new)
+    → Kept disk old core (heard_in old.records.items all.items) heard result new
+    → IsNamed result (heard_in old.records.items all.items) (reply_saved old new)
 unfolding member_saved
 same_reply {result = Err f} into kept = record { same = tt }
 same_reply {old = old} {all = all} {heard = heard} {result = Ok h} {new = new} into kept =
@@ -127,7 +132,8 @@ reply_as {result = Err e} P named holds = tt
 reply_as {result = Ok a} P named holds = subst P named.same holds
 
 lives_as : {A D : Type 0} (disk : DiskGhosts D) (header : Header) (liars : ℕ → Bool) (w : World) (toss : ℕ) (event : Event) (result : Result A MemberFault) (old new : Member D) (f g : A → Reply)
-    → IfOk result (λ a. f a ≡ g a) → LivesBy f disk header liars w toss event result old new → LivesBy g disk header liars w toss event result old new
+    → IfOk result (λ a. f a ≡ g a) → LivesBy f disk header liars w toss event result old new
+    → LivesBy g disk header liars w toss event result old new
 lives_as disk header liars w toss event (Ok a) old new f g same lives =
     subst (λ (r : Reply). Replies header w toss event r × DoesStep disk header liars w (world_step header.me event (records_of r) true) new) same lives
 lives_as disk header liars w toss event (Err Device) old new f g same lives = lives

@@ -1,12 +1,12 @@
 use Rattle.std.proofs.Common.{rules}
-use Rattle.std.specs.Global.{Vec}
-use Rattle.terms_prelude.specs.Terms.{Record, Reply, Hearing, records_of}
+use Rattle.terms_prelude.specs.Terms.{Reply, Hearing, records_of}
 use Rattle.questions.specs.declared.answer.Heard.{Heard}
 use Rattle.member.specs.Words.{Kept, HasSaved, reply_saved, member_header, member_is_stopped}
-use Rattle.member.proofs.Calls.{Call, called_of, well_formed, sounds}
+use Rattle.member.proofs.Calls.{Call, well_formed, sounds}
 use Rattle.member.proofs.Formed.{comes_formed}
 use Rattle.member.proofs.Outcomes.{has_saved, stays_on, one_event}
-use Rattle.member.proofs.Saved.{HeardInto, IsNamed, heard_in, formed_behind, kept_into, same_reply, reply_as, event_as}
+use Rattle.member.proofs.Saved.{HeardInto, IsNamed, heard_in, formed_behind, kept_into}
+use Rattle.member.proofs.Saved.{same_reply, reply_as, event_as}
 use Rattle.member.proofs.member.Member.hear_saved.Given.{Over}
 use Rattle.member.proofs.member.Member.hear_saved.Goals as goal
 
@@ -16,7 +16,8 @@ module _ (g : Over) (c : goal.After-keep_last-arg-1 g) where
   reply_in = heard_in c.args.self.now.records.items c.hear_into-heard.new.batch.items
 
   -- the core answered into the member's list
-  into : HeardInto c.args.self.now c.hear_into-heard.new.batch c.len-before.result c.hear_into-heard.result
+  into : HeardInto c.args.self.now c.hear_into-heard.new.batch
+      c.len-before.result c.hear_into-heard.result
   into =
       let k = c.hear_into-heard.ensures in
       record { count = search rules; appends = k.appends; same = k.same; untouched = k.untouched }
@@ -37,7 +38,11 @@ module _ (g : Over) (c : goal.After-keep_last-arg-1 g) where
         };
         sound = c.requires.sound;
         going = c.if-self.false;
-        called = called_of k.answer k.fault k.memory_only_at_news k.size k.me;
+        replied = k.answer;
+        refused = k.fault;
+        news = k.memory_only_at_news;
+        size = k.size;
+        me = k.me;
         formed = comes_formed _ _ _ s.place s.fits;
       }
 
@@ -49,7 +54,8 @@ kept g c = kept_into (into g c.before) c.keep_last.ensures
 
 -- and its reply by the member's own lists
 named : (g : Over) (c : goal.After-keep_last g)
-    → IsNamed c.keep_last.result (reply_in g c.before) (reply_saved c.args.self.now c.keep_last.new.self)
+    → IsNamed c.keep_last.result (reply_in g c.before)
+    (reply_saved c.args.self.now c.keep_last.new.self)
 named g c = same_reply (into g c.before) (kept g c)
 
 pub keep_last-requires-clause-well_formed : goal.keep_last-requires-clause-well_formed
@@ -61,8 +67,8 @@ returns-clause-sound g c = sounds (call g c.before) (kept g c)
 
 pub returns-clause-saved : goal.returns-clause-saved
 returns-clause-saved g c =
-    reply_as (λ r. HasSaved g.D.Disk c.args.self.now (records_of r) c.keep_last.new.self) (named g c)
-    (has_saved (call g c.before) (kept g c))
+    reply_as (λ r. HasSaved g.D.Disk c.args.self.now (records_of r) c.keep_last.new.self)
+    (named g c) (has_saved (call g c.before) (kept g c))
 
 pub returns-clause-event : goal.returns-clause-event
 returns-clause-event g c = event_as (named g c) (one_event (call g c.before) (kept g c))
