@@ -18,17 +18,17 @@ const PACE: u64 = 2000;
 const MOST_STATES: u32 = 16;
 
 /// Speaks to the member, over one connection after the other, until the gateway ends.
-pub(crate) fn ask_on<R: Runner>(rt: R, it: Arc<Shared>, member: u8) {
-    let it: &Shared = &it;
+pub(crate) fn ask_on<R: Runner>(rt: R, shared: Arc<Shared>, member: u8) {
+    let shared: &Shared = &shared;
     let mut rest = FIRST_REST;
     for _ in 0..u64::MAX {
         let begun = Deadline::new(&rt, PACE);
-        let _ended = ask_once(&rt, it, member).is_err();
-        if it.is_over() {
+        let _ended = ask_once(&rt, shared, member).is_err();
+        if shared.is_over() {
             return;
         }
-        it.book.lock(&rt).set_state(member, MemberState::Silent);
-        it.changed.notify_all();
+        shared.book.lock(&rt).set_state(member, MemberState::Silent);
+        shared.changed.notify_all();
         let lived = match begun {
             Ok(begun) => begun.left(&rt).is_err(),
             Err(_) => false,
@@ -39,28 +39,28 @@ pub(crate) fn ask_on<R: Runner>(rt: R, it: Arc<Shared>, member: u8) {
 }
 
 /// Speaks to the member over one connection, until it ends.
-fn ask_once<R: Runner>(rt: &R, it: &Shared, member: u8) -> io::Result<()> {
-    let mut lines = connect(rt, it, member)?;
+fn ask_once<R: Runner>(rt: &R, shared: &Shared, member: u8) -> io::Result<()> {
+    let mut lines = connect(rt, shared, member)?;
     let mut next = 0;
     for _ in 0..u64::MAX {
-        if it.is_over() {
+        if shared.is_over() {
             return Ok(());
         }
-        ask(rt, it, &mut lines, member)?;
-        next = ask_open(rt, it, &mut lines, member, next)?;
+        ask(rt, shared, &mut lines, member)?;
+        next = ask_open(rt, shared, &mut lines, member, next)?;
         let pause = Deadline::new(rt, PACE)?;
-        propose_all(rt, it, &mut lines, member, pause)?;
+        propose_all(rt, shared, &mut lines, member, pause)?;
     }
     Ok(())
 }
 
 /// Asks for the member's counts and links.
-fn ask<R: Runner>(rt: &R, it: &Shared, lines: &mut DeskLines, member: u8) -> io::Result<()> {
-    let counts = exchange(rt, it, lines, "STATUS\n")?;
-    it.book.lock(rt).set_reply(member, counts);
-    let links = exchange(rt, it, lines, "LINKS\n")?;
-    it.book.lock(rt).set_reply(member, links);
-    it.changed.notify_all();
+fn ask<R: Runner>(rt: &R, shared: &Shared, lines: &mut DeskLines, member: u8) -> io::Result<()> {
+    let counts = exchange(rt, shared, lines, "STATUS\n")?;
+    shared.book.lock(rt).set_reply(member, counts);
+    let links = exchange(rt, shared, lines, "LINKS\n")?;
+    shared.book.lock(rt).set_reply(member, links);
+    shared.changed.notify_all();
     Ok(())
 }
 
@@ -68,20 +68,20 @@ fn ask<R: Runner>(rt: &R, it: &Shared, lines: &mut DeskLines, member: u8) -> io:
 /// Returns the question after the last of them; 0 after the last of all.
 fn ask_open<R: Runner>(
     rt: &R,
-    it: &Shared,
+    shared: &Shared,
     lines: &mut DeskLines,
     member: u8,
     from: u64,
 ) -> io::Result<u64> {
     let mut next = from;
     for _ in 0..MOST_STATES {
-        let open = it.book.lock(rt).open_from(next, member);
+        let open = shared.book.lock(rt).open_from(next, member);
         let Some(question) = open else {
             return Ok(0);
         };
-        let line = format!(in it.alloc; "STATE {question}\n")?;
-        let reply = exchange(rt, it, lines, line.as_str())?;
-        hear_state(rt, it, member, question, reply);
+        let line = format!(in shared.alloc; "STATE {question}\n")?;
+        let reply = exchange(rt, shared, lines, line.as_str())?;
+        hear_state(rt, shared, member, question, reply);
         next = question.saturating_add(1);
     }
     Ok(next)
@@ -89,9 +89,9 @@ fn ask_open<R: Runner>(
 
 /// Takes what a member replied to `STATE`. A decision that it tells is its word: one that came late
 /// in an epoch may be told to no follower.
-fn hear_state<R: Runner>(rt: &R, it: &Shared, member: u8, question: u64, reply: Reply) {
+fn hear_state<R: Runner>(rt: &R, shared: &Shared, member: u8, question: u64, reply: Reply) {
     match reply {
-        Reply::Spent => it.book.lock(rt).set_spent(question, member),
+        Reply::Spent => shared.book.lock(rt).set_spent(question, member),
         Reply::Told(bit) => {
             let told = Told {
                 member,
@@ -99,37 +99,42 @@ fn hear_state<R: Runner>(rt: &R, it: &Shared, member: u8, question: u64, reply: 
                 bit,
             };
             let time = time_now(rt);
-            let _heard = it.book.lock(rt).hear(told, time);
+            let _heard = shared.book.lock(rt).hear(told, time);
         }
         _ => return,
     }
-    it.changed.notify_all();
+    shared.changed.notify_all();
 }
 
 /// Makes proposals to the member as they come, until the pause is over.
 fn propose_all<R: Runner>(
     rt: &R,
-    it: &Shared,
+    shared: &Shared,
     lines: &mut DeskLines,
     member: u8,
     pause: Deadline,
 ) -> io::Result<()> {
     for _ in 0..u64::MAX {
-        let Some(motion) = next_motion(rt, it, member, pause) else {
+        let Some(motion) = next_motion(rt, shared, member, pause) else {
             return Ok(());
         };
-        propose(rt, it, lines, member, motion)?;
+        propose(rt, shared, lines, member, motion)?;
     }
     Ok(())
 }
 
 /// Waits for a proposal that the member hasn't replied to, for as long as is left.
-fn next_motion<R: Runner>(rt: &R, it: &Shared, member: u8, deadline: Deadline) -> Option<Motion> {
+fn next_motion<R: Runner>(
+    rt: &R,
+    shared: &Shared,
+    member: u8,
+    deadline: Deadline,
+) -> Option<Motion> {
     let Ok(left) = deadline.left(rt) else {
-        return it.book.lock(rt).motion_for(member);
+        return shared.book.lock(rt).motion_for(member);
     };
-    let book = it.book.lock(rt);
-    let (book, _late) = it.changed.wait_timeout_while(rt, book, left, |book| {
+    let book = shared.book.lock(rt);
+    let (book, _late) = shared.changed.wait_timeout_while(rt, book, left, |book| {
         book.motion_for(member).is_none()
     });
     book.motion_for(member)
@@ -138,27 +143,27 @@ fn next_motion<R: Runner>(rt: &R, it: &Shared, member: u8, deadline: Deadline) -
 /// Makes a proposal to the member.
 fn propose<R: Runner>(
     rt: &R,
-    it: &Shared,
+    shared: &Shared,
     lines: &mut DeskLines,
     member: u8,
     motion: Motion,
 ) -> io::Result<()> {
     let bit = u8::from(motion.bit);
-    let line = format!(in it.alloc; "PROPOSE {} {bit}\n", motion.question)?;
-    let reply = exchange(rt, it, lines, line.as_str())?;
-    it.book.lock(rt).reply(motion.number, member, reply);
-    it.changed.notify_all();
+    let line = format!(in shared.alloc; "PROPOSE {} {bit}\n", motion.question)?;
+    let reply = exchange(rt, shared, lines, line.as_str())?;
+    shared.book.lock(rt).reply(motion.number, member, reply);
+    shared.changed.notify_all();
     Ok(())
 }
 
 /// Returns the reply to a line.
 fn exchange<R: Runner>(
     rt: &R,
-    it: &Shared,
+    shared: &Shared,
     lines: &mut DeskLines,
     line: &str,
 ) -> io::Result<Reply> {
     lines.send(rt, line, Deadline::new(rt, PROMPT)?)?;
-    let reply = lines.next(rt, it.alloc, Deadline::new(rt, PROMPT)?)?;
+    let reply = lines.next(rt, shared.alloc, Deadline::new(rt, PROMPT)?)?;
     Ok(reply_of(&reply))
 }

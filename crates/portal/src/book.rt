@@ -1,6 +1,6 @@
 //! The book of a gateway: a cluster as it is known, and its events.
 
-ghost use Rattle.std.specs.Prelude.{List};
+ghost use Rattle.std.specs.Prelude.{◌≡◌, ◌==◌, List, filter, find, not};
 ghost use Rattle.gateway.specs.Watches.{Watches};
 ghost use Rattle.gateway.specs.declared.watch.Told.{Told};
 
@@ -12,7 +12,6 @@ use gateway::{
     Told, Watch, standing_of,
 };
 use std::alloc::{AllocError, Global};
-use std::mem;
 
 /// The most events that are kept. Who follows from an earlier one loads everything anew.
 const MOST_EVENTS: usize = 16_384;
@@ -470,21 +469,23 @@ impl Book {
         mask
     }
 
-    /// Ends a proposal, and returns it.
-    pub(crate) fn end_motion(&mut self, number: u64) -> Option<Motion> {
+    /// Ends a proposal, and returns it. The others stay.
+    pub(crate) fn end_motion(&mut self, number: u64) -> Option<Motion>
+        ensures ended { result
+            ≡ find (λ motion. motion.number == number) self.old.motions.items }
+        ensures stays { self.new.motions.items
+            ≡ filter (λ motion. not (motion.number == number)) self.old.motions.items }
+        ensures rest { self.new ≡ record self.old { motions = self.new.motions } }
+    {
         let ended = self.motion(number);
-        let mut rest = Vec::new(self.alloc);
-        for motion in mem::replace(&mut self.motions, Vec::new(self.alloc)) {
-            if motion.number != number {
-                let _lost = rest.push(motion).is_err();
-            }
-        }
-        self.motions = rest;
+        self.motions.retain(|motion| motion.number != number);
         ended
     }
 
     /// Returns a proposal that is under way.
-    pub(crate) fn motion(&self, number: u64) -> Option<Motion> {
+    pub(crate) fn motion(&self, number: u64) -> Option<Motion>
+        ensures { result ≡ find (λ motion. motion.number == number) self.now.motions.items }
+    {
         self.motions
             .iter()
             .find(|motion| motion.number == number)

@@ -1,5 +1,8 @@
 //! The time that something may take.
 
+ghost use Rattle.std.specs.Prelude.{◌≡◌, ◌*◌, IfOk};
+ghost use Rattle.std.specs.Duration.{as_nanos};
+
 use std::io;
 use std::time::{Clock, Duration, Instant};
 
@@ -12,7 +15,10 @@ pub(crate) struct Deadline {
 
 impl Deadline {
     /// Returns the end of so many milliseconds from now on.
-    pub(crate) fn new<R: Clock>(rt: &R, milliseconds: u64) -> io::Result<Deadline> {
+    pub(crate) fn new<R: Clock>(rt: &R, milliseconds: u64) -> io::Result<Deadline>
+        ensures { IfOk result
+            (λ deadline. as_nanos deadline.whole ≡ milliseconds * 1_000_000) }
+    {
         Ok(Deadline {
             start: Instant::now(rt)?,
             whole: Duration::from_millis(milliseconds),

@@ -45,17 +45,17 @@ pub(crate) enum Fetched {
 /// other, until one sends one that is proof; else the last that was sent is returned.
 pub(crate) fn fetch<R: Speaker>(
     rt: &R,
-    it: &Shared,
+    shared: &Shared,
     question: u64,
     bit: bool,
 ) -> io::Result<Fetched> {
     let all = Deadline::new(rt, IN_ALL)?;
     let mut fetched = Fetched::Silent;
-    for member in tellers(rt, it, question, bit)? {
+    for member in tellers(rt, shared, question, bit)? {
         let Ok(deadline) = sooner(rt, all) else {
             return Ok(fetched);
         };
-        match sent_by(rt, it, member, (question, bit), deadline) {
+        match sent_by(rt, shared, member, (question, bit), deadline) {
             Ok(Some(sent)) => {
                 if sent.proven {
                     return Ok(Fetched::Sent(sent));
@@ -73,14 +73,14 @@ pub(crate) fn fetch<R: Speaker>(
 /// on.
 fn tellers<R: Speaker>(
     rt: &R,
-    it: &Shared,
+    shared: &Shared,
     question: u64,
     bit: bool,
 ) -> Result<Vec<u8>, AllocError> {
-    let mut members = Vec::new(it.alloc);
-    let n = u64::from(it.scope.size.n()).max(1);
-    let first = it.turns.fetch_add(1, Ordering::SeqCst) % n;
-    let book = it.book.lock(rt);
+    let mut members = Vec::new(shared.alloc);
+    let n = u64::from(shared.scope.size.n()).max(1);
+    let first = shared.turns.fetch_add(1, Ordering::SeqCst) % n;
+    let book = shared.book.lock(rt);
     for place in 0..n {
         let member = ((first + place) % n) as u8;
         if book.word_of(question, member) == Some(bit) {
@@ -99,19 +99,19 @@ fn sooner<R: Speaker>(rt: &R, all: Deadline) -> io::Result<Deadline> {
 /// `None` if it sends another.
 fn sent_by<R: Speaker>(
     rt: &R,
-    it: &Shared,
+    shared: &Shared,
     member: u8,
     (question, bit): (u64, bool),
     deadline: Deadline,
 ) -> io::Result<Option<Sent>> {
-    let Some(text) = transcript_from(rt, it, member, question, deadline)? else {
+    let Some(text) = transcript_from(rt, shared, member, question, deadline)? else {
         return Ok(None);
     };
-    let named = question_in(it.scope.size, question);
-    if !is_of(it.alloc, &text, named, bit)? {
+    let named = question_in(shared.scope.size, question);
+    if !is_of(shared.alloc, &text, named, bit)? {
         return Ok(None);
     }
-    match audited(it.alloc, it.scope.size, &text) {
+    match audited(shared.alloc, shared.scope.size, &text) {
         Some(proven) => Ok(Some(Sent {
             member,
             text,
@@ -124,25 +124,25 @@ fn sent_by<R: Speaker>(
 /// Returns the transcript that a member sends within the time. `None` if it replies something else.
 fn transcript_from<R: Speaker>(
     rt: &R,
-    it: &Shared,
+    shared: &Shared,
     member: u8,
     question: u64,
     deadline: Deadline,
 ) -> io::Result<Option<Vec<u8>>> {
-    let mut lines = connect(rt, it, member)?;
-    let line = format!(in it.alloc; "TRANSCRIPT {question}\n")?;
+    let mut lines = connect(rt, shared, member)?;
+    let line = format!(in shared.alloc; "TRANSCRIPT {question}\n")?;
     lines.send(rt, line.as_str(), Deadline::new(rt, PROMPT)?)?;
-    let head = lines.next(rt, it.alloc, deadline)?;
+    let head = lines.next(rt, shared.alloc, deadline)?;
     let Some(count) = count_in(&head) else {
         return Ok(None);
     };
-    let mut text = Vec::new(it.alloc);
+    let mut text = Vec::new(shared.alloc);
     put_line(&mut text, &head)?;
     for _ in 0..count {
         if text.len() > LONGEST {
             return Err(io::Error::from(io::ErrorKind::InvalidData));
         }
-        let line = lines.next(rt, it.alloc, deadline)?;
+        let line = lines.next(rt, shared.alloc, deadline)?;
         put_line(&mut text, &line)?;
     }
     Ok(Some(text))

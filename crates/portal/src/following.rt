@@ -28,14 +28,14 @@ pub(crate) const FIRST_REST: u64 = 250;
 const LAST_NUMBER: u64 = 99_999;
 
 /// Follows a member, over one connection after the other, until the gateway ends.
-pub(crate) fn follow_on<R: Runner>(rt: R, it: Arc<Shared>, member: u8) {
-    let it: &Shared = &it;
+pub(crate) fn follow_on<R: Runner>(rt: R, shared: Arc<Shared>, member: u8) {
+    let shared: &Shared = &shared;
     let mut number = None;
     let mut rest = FIRST_REST;
     for _ in 0..u64::MAX {
         let before = number;
-        let _ended = follow_once(&rt, it, member, &mut number).is_err();
-        if it.is_over() {
+        let _ended = follow_once(&rt, shared, member, &mut number).is_err();
+        if shared.is_over() {
             return;
         }
         rest = if number != before {
@@ -50,16 +50,16 @@ pub(crate) fn follow_on<R: Runner>(rt: R, it: Arc<Shared>, member: u8) {
 /// Follows a member over one connection, from this number on if there is one.
 fn follow_once<R: Runner>(
     rt: &R,
-    it: &Shared,
+    shared: &Shared,
     member: u8,
     number: &mut Option<u64>,
 ) -> io::Result<()> {
-    let mut lines = connect(rt, it, member)?;
+    let mut lines = connect(rt, shared, member)?;
     let mut from = match *number {
         Some(from) => from,
-        None => first_number(rt, it, &mut lines, member)?,
+        None => first_number(rt, shared, &mut lines, member)?,
     };
-    let ended = follow_from(rt, it, &mut lines, member, &mut from);
+    let ended = follow_from(rt, shared, &mut lines, member, &mut from);
     *number = Some(from);
     ended
 }
@@ -68,25 +68,25 @@ fn follow_once<R: Runner>(
 /// that of the epoch in which the window begins once more than t members are where this one is.
 fn first_number<R: Runner>(
     rt: &R,
-    it: &Shared,
+    shared: &Shared,
     lines: &mut DeskLines,
     member: u8,
 ) -> io::Result<u64> {
-    if !it.scope.chain {
+    if !shared.scope.chain {
         return Ok(0);
     }
-    let closed = closed_epochs(rt, it, lines)?;
-    let slot = closed.saturating_mul(u64::from(it.scope.size.questions()));
-    let mut book = it.book.lock(rt);
+    let closed = closed_epochs(rt, shared, lines)?;
+    let slot = closed.saturating_mul(u64::from(shared.scope.size.questions()));
+    let mut book = shared.book.lock(rt);
     book.reach(member, slot)?;
     Ok(book.watch().follow_from(slot))
 }
 
 /// Returns the reply to the line `EPOCHS`: the first epoch that isn't closed at the member; 0 if it
 /// says none.
-fn closed_epochs<R: Runner>(rt: &R, it: &Shared, lines: &mut DeskLines) -> io::Result<u64> {
+fn closed_epochs<R: Runner>(rt: &R, shared: &Shared, lines: &mut DeskLines) -> io::Result<u64> {
     lines.send(rt, "EPOCHS\n", Deadline::new(rt, PROMPT)?)?;
-    let line = lines.next(rt, it.alloc, Deadline::new(rt, PROMPT)?)?;
+    let line = lines.next(rt, shared.alloc, Deadline::new(rt, PROMPT)?)?;
     match reply_of(&line) {
         Reply::Epochs { closed, .. } => Ok(closed),
         _ => Ok(0),
@@ -98,16 +98,16 @@ fn closed_epochs<R: Runner>(rt: &R, it: &Shared, lines: &mut DeskLines) -> io::R
 /// than t members have come.
 fn follow_from<R: Runner>(
     rt: &R,
-    it: &Shared,
+    shared: &Shared,
     lines: &mut DeskLines,
     member: u8,
     number: &mut u64,
 ) -> io::Result<()> {
-    let line = format!(in it.alloc; "FOLLOW {}\n", *number)?;
+    let line = format!(in shared.alloc; "FOLLOW {}\n", *number)?;
     lines.send(rt, line.as_str(), Deadline::new(rt, PROMPT)?)?;
     for _ in 0..u64::MAX {
-        let line = lines.next(rt, it.alloc, Deadline::new(rt, SILENCE)?)?;
-        if it.is_over() {
+        let line = lines.next(rt, shared.alloc, Deadline::new(rt, SILENCE)?)?;
+        if shared.is_over() {
             return Ok(());
         }
         if let Reply::Decided { question, bit } = reply_of(&line) {
@@ -116,10 +116,10 @@ fn follow_from<R: Runner>(
                 question,
                 bit,
             };
-            if !hear(rt, it, told) {
+            if !hear(rt, shared, told) {
                 return Ok(());
             }
-            *number = number_after(it, *number, question);
+            *number = number_after(shared, *number, question);
         }
     }
     Ok(())
@@ -127,17 +127,17 @@ fn follow_from<R: Runner>(
 
 /// Takes a decision that a member told. Returns `false` if it comes after the window: it is to be
 /// told again.
-fn hear<R: Runner>(rt: &R, it: &Shared, told: Told) -> bool {
+fn hear<R: Runner>(rt: &R, shared: &Shared, told: Told) -> bool {
     let time = time_now(rt);
-    let heard = it.book.lock(rt).hear(told, time);
-    it.changed.notify_all();
+    let heard = shared.book.lock(rt).hear(told, time);
+    shared.changed.notify_all();
     heard
 }
 
 /// Returns the number from which a member is followed, once it told a decision of this question.
-fn number_after(it: &Shared, number: u64, question: u64) -> u64 {
-    let next = it.scope.next_number(number, question);
-    if it.scope.chain {
+fn number_after(shared: &Shared, number: u64, question: u64) -> u64 {
+    let next = shared.scope.next_number(number, question);
+    if shared.scope.chain {
         next
     } else {
         next.min(LAST_NUMBER)
@@ -145,13 +145,13 @@ fn number_after(it: &Shared, number: u64, question: u64) -> u64 {
 }
 
 /// Returns the lines of a new connection to a member's desk.
-pub(crate) fn connect<R: Speaker>(rt: &R, it: &Shared, member: u8) -> io::Result<DeskLines> {
-    let Some(desk) = it.desks.get(usize::from(member)) else {
+pub(crate) fn connect<R: Speaker>(rt: &R, shared: &Shared, member: u8) -> io::Result<DeskLines> {
+    let Some(desk) = shared.desks.get(usize::from(member)) else {
         return Err(io::Error::from(io::ErrorKind::NotFound));
     };
     let limit = Duration::from_millis(PROMPT);
     let socket = TcpStream::connect_timeout(rt, desk, limit)?;
-    Ok(DeskLines::new(it.alloc, socket))
+    Ok(DeskLines::new(shared.alloc, socket))
 }
 
 /// Returns twice the rest, but no longer one than is had.

@@ -34,7 +34,7 @@ const MOST_FETCHES: u64 = 1;
 #[derive(Drop)]
 pub(crate) struct Reach<'a, R: 'static> {
     pub(crate) rt: &'a R,
-    pub(crate) it: &'a Shared,
+    pub(crate) shared: &'a Shared,
     /// The proposals that this connection handed on.
     pub(crate) handed: GhostRecord<Handed>,
 }
@@ -49,20 +49,20 @@ impl<'a, R: Speaker> Reach<'a, R> {
             return self.refuse(refusal);
         }
         self.await_decision(question, wait);
-        let book = self.it.book.lock(self.rt);
-        question_answer(self.it.alloc, &book, size, question)
+        let book = self.shared.book.lock(self.rt);
+        question_answer(self.shared.alloc, &book, size, question)
     }
 
     /// Returns the answer about those of these questions that are in the window.
     fn questions(&self, from: u64, to: u64) -> Result<Answer, AllocError> {
-        let book = self.it.book.lock(self.rt);
+        let book = self.shared.book.lock(self.rt);
         let moment = Moment {
-            questions: self.it.scope.size.questions(),
+            questions: self.shared.scope.size.questions(),
             from: book.watch().within(from),
             to: book.watch().within(to),
-            after: book.position(self.it.life),
+            after: book.position(self.shared.life),
         };
-        questions_answer(self.it.alloc, &book, &moment, time_now(self.rt))
+        questions_answer(self.shared.alloc, &book, &moment, time_now(self.rt))
     }
 
     /// Returns a transcript of the question.
@@ -70,7 +70,7 @@ impl<'a, R: Speaker> Reach<'a, R> {
         if let Some(refusal) = self.refusal(question) {
             return self.refuse(refusal);
         }
-        let decision = self.it.book.lock(self.rt).decision(question);
+        let decision = self.shared.book.lock(self.rt).decision(question);
         match decision {
             Some(bit) => self.turned(question, bit),
             None => self.without_decision(),
@@ -79,23 +79,23 @@ impl<'a, R: Speaker> Reach<'a, R> {
 
     /// Returns the reason why nothing is told of a question now.
     fn refusal(&self, question: u64) -> Option<Refusal> {
-        self.it.book.lock(self.rt).watch().refusal(question)
+        self.shared.book.lock(self.rt).watch().refusal(question)
     }
 
     /// Returns a transcript of the question's decision, unless too many are being fetched.
     fn turned(&self, question: u64, bit: bool) -> Result<Answer, AllocError> {
-        if self.it.fetches.fetch_add(1, Ordering::SeqCst) >= MOST_FETCHES {
-            self.it.fetches.fetch_sub(1, Ordering::SeqCst);
+        if self.shared.fetches.fetch_add(1, Ordering::SeqCst) >= MOST_FETCHES {
+            self.shared.fetches.fetch_sub(1, Ordering::SeqCst);
             return self.refuse(Refusal::Busy);
         }
         let answer = self.fetched(question, bit);
-        self.it.fetches.fetch_sub(1, Ordering::SeqCst);
+        self.shared.fetches.fetch_sub(1, Ordering::SeqCst);
         answer
     }
 
     /// Returns a transcript of the question's decision.
     fn fetched(&self, question: u64, bit: bool) -> Result<Answer, AllocError> {
-        match fetch(self.rt, self.it, question, bit) {
+        match fetch(self.rt, self.shared, question, bit) {
             Ok(Fetched::Sent(sent)) => self.sent(question, bit, &sent),
             Ok(Fetched::Thin) => self.refuse(Refusal::Thin),
             Ok(Fetched::Silent) => self.refuse(Refusal::Silent),
@@ -112,13 +112,13 @@ impl<'a, R: Speaker> Reach<'a, R> {
             proven: sent.proven,
             text: &sent.text,
         };
-        let body = transcript_text(self.it.alloc, &told)?;
+        let body = transcript_text(self.shared.alloc, &told)?;
         Ok(good_answer(Kind::Json, body))
     }
 
     /// Returns the refusal of a transcript of a question that isn't decided.
     fn without_decision(&self) -> Result<Answer, AllocError> {
-        let reachable = self.it.book.lock(self.rt).reachable();
+        let reachable = self.shared.book.lock(self.rt).reachable();
         if reachable == 0 {
             self.refuse(Refusal::Silent)
         } else {
@@ -130,7 +130,7 @@ impl<'a, R: Speaker> Reach<'a, R> {
     fn replied(&self, number: u64, proposal: Proposal) -> Result<Answer, AllocError> {
         self.await_replies(number);
         self.await_decision(proposal.question, proposal.wait);
-        let mut book = self.it.book.lock(self.rt);
+        let mut book = self.shared.book.lock(self.rt);
         let standing = book.standing(proposal.question);
         let Some(motion) = book.end_motion(number) else {
             return Err(AllocError);
@@ -140,20 +140,20 @@ impl<'a, R: Speaker> Reach<'a, R> {
             return self.refuse(Refusal::Silent);
         }
         let (question, taken, have) = (proposal.question, motion.taken, motion.have);
-        let text = proposal_text(self.it.alloc, question, standing, taken, have)?;
+        let text = proposal_text(self.shared.alloc, question, standing, taken, have)?;
         let status = match standing {
             Standing::Decided(_) => 200,
             _ => 202,
         };
-        answer_of(self.it.alloc, status, Kind::Json, text.as_bytes())
+        answer_of(self.shared.alloc, status, Kind::Json, text.as_bytes())
     }
 
     /// Waits until each member that answers has replied to a proposal.
     fn await_replies(&self, number: u64) {
         let limit = Duration::from_millis(REPLIES);
-        let book = self.it.book.lock(self.rt);
+        let book = self.shared.book.lock(self.rt);
         let (_book, _late) = self
-            .it
+            .shared
             .changed
             .wait_timeout_while(self.rt, book, limit, |book| { book.is_asked(number) });
     }
@@ -164,12 +164,12 @@ impl<'a, R: Speaker> Reach<'a, R> {
             return;
         }
         let limit = Duration::from_secs(u64::from(seconds));
-        let book = self.it.book.lock(self.rt);
+        let book = self.shared.book.lock(self.rt);
         let (_book, _late) = self
-            .it
+            .shared
             .changed
             .wait_timeout_while(self.rt, book, limit, |book| {
-                book.awaits(question) && !self.it.is_over()
+                book.awaits(question) && !self.shared.is_over()
             });
     }
 }
@@ -178,13 +178,13 @@ impl<'a, R: Speaker> Cluster for Reach<'a, R> {
     ghost handed = { λ reach. reach.handed.value };
 
     fn read(&self, size: Size, task: Task) -> Result<Answer, AllocError> {
-        let alloc = self.it.alloc;
+        let alloc = self.shared.alloc;
         match task {
             Task::Page => answer_of(alloc, 200, Kind::Page, live().as_bytes()),
             Task::Health => answer_of(alloc, 200, Kind::Json, b"{\"ok\":true}\n"),
-            Task::Ready => ready_answer(self.it, &self.it.book.lock(self.rt)),
-            Task::Metrics => metrics_answer(alloc, &self.it.book.lock(self.rt)),
-            Task::Members => members_answer(self.it, &self.it.book.lock(self.rt)),
+            Task::Ready => ready_answer(self.shared, &self.shared.book.lock(self.rt)),
+            Task::Metrics => metrics_answer(alloc, &self.shared.book.lock(self.rt)),
+            Task::Members => members_answer(self.shared, &self.shared.book.lock(self.rt)),
             Task::Questions { from, to } => self.questions(from, to),
             Task::Question { question, wait } => self.question(size, question, wait),
             Task::Transcript(question) => self.transcript(question),
@@ -200,7 +200,7 @@ impl<'a, R: Speaker> Cluster for Reach<'a, R> {
     fn propose(&mut self, proposal: Proposal) -> Result<Answer, AllocError> {
         let time = time_now(self.rt);
         let begun = self
-            .it
+            .shared
             .book
             .lock(self.rt)
             .propose(proposal.question, proposal.bit, time);
@@ -209,15 +209,15 @@ impl<'a, R: Speaker> Cluster for Reach<'a, R> {
             Err(refusal) => return self.refuse(refusal),
         };
         self.handed = self.handed.then(&HandedOn { proposal });
-        self.it.changed.notify_all();
+        self.shared.changed.notify_all();
         self.replied(number, proposal)
     }
 
     fn refuse(&self, refusal: Refusal) -> Result<Answer, AllocError> {
-        self.it.book.lock(self.rt).count_refusal();
-        let text = refusal_text(self.it.alloc, refusal)?;
+        self.shared.book.lock(self.rt).count_refusal();
+        let text = refusal_text(self.shared.alloc, refusal)?;
         answer_of(
-            self.it.alloc,
+            self.shared.alloc,
             status_of(refusal),
             Kind::Json,
             text.as_bytes(),

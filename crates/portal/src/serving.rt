@@ -1,6 +1,9 @@
 //! The connections of a gateway's clients, and its start: begin at `open`.
 
+ghost use Rattle.std.specs.Prelude.{◌≡◌, ◌≢◌, ◌*◌, OnErr, OnOk};
+ghost use Rattle.std.specs.Duration.{as_nanos};
 ghost use Rattle.std.specs.Io.{ReadsAtMost, WritesAtMost};
+ghost use Rattle.portal.specs.Times.{time_for};
 
 use crate::asking::ask_on;
 use crate::book::Book;
@@ -101,14 +104,14 @@ pub enum OpeningFault {
 /// A gateway that runs.
 #[derive(Drop)]
 pub struct Portal {
-    it: Arc<Shared>,
+    shared: Arc<Shared>,
 }
 
 impl Portal {
     /// Ends all threads.
     pub fn end(&self) {
-        self.it.over.store(true, Ordering::SeqCst);
-        self.it.changed.notify_all();
+        self.shared.over.store(true, Ordering::SeqCst);
+        self.shared.changed.notify_all();
     }
 }
 
@@ -129,14 +132,14 @@ pub fn open<R: Runner>(rt: &R, alloc: Global, opening: Opening) -> Result<Portal
     let Ok(shared) = new_shared(alloc, opening) else {
         return Err(OpeningFault::Memory);
     };
-    let Ok(it) = Arc::new(alloc, shared) else {
+    let Ok(shared) = Arc::new(alloc, shared) else {
         return Err(OpeningFault::Memory);
     };
     for member in 0..n {
-        start_member(rt, &it, member)?;
+        start_member(rt, &shared, member)?;
     }
-    start_accepting(rt, &it, listener)?;
-    Ok(Portal { it })
+    start_accepting(rt, &shared, listener)?;
+    Ok(Portal { shared })
 }
 
 /// Returns what the threads share.
@@ -173,9 +176,9 @@ fn new_shared(alloc: Global, opening: Opening) -> Result<Shared, AllocError> {
 }
 
 /// Starts the two threads of a member.
-fn start_member<R: Runner>(rt: &R, it: &Arc<Shared>, member: u8) -> Result<(), OpeningFault> {
-    let first: Result<Arc<Shared>, AllocError> = it.clone();
-    let second: Result<Arc<Shared>, AllocError> = it.clone();
+fn start_member<R: Runner>(rt: &R, shared: &Arc<Shared>, member: u8) -> Result<(), OpeningFault> {
+    let first: Result<Arc<Shared>, AllocError> = shared.clone();
+    let second: Result<Arc<Shared>, AllocError> = shared.clone();
     let (Ok(first), Ok(second)) = (first, second) else {
         return Err(OpeningFault::Memory);
     };
@@ -193,10 +196,10 @@ fn start_member<R: Runner>(rt: &R, it: &Arc<Shared>, member: u8) -> Result<(), O
 /// Starts the thread that takes clients in.
 fn start_accepting<R: Runner>(
     rt: &R,
-    it: &Arc<Shared>,
+    shared: &Arc<Shared>,
     listener: TcpListener,
 ) -> Result<(), OpeningFault> {
-    let theirs: Result<Arc<Shared>, AllocError> = it.clone();
+    let theirs: Result<Arc<Shared>, AllocError> = shared.clone();
     let Ok(theirs) = theirs else {
         return Err(OpeningFault::Memory);
     };
@@ -208,33 +211,33 @@ fn start_accepting<R: Runner>(
 }
 
 /// Takes clients in, until the gateway ends.
-fn accept_on<R: Runner>(rt: R, it: Arc<Shared>, listener: TcpListener) {
+fn accept_on<R: Runner>(rt: R, shared: Arc<Shared>, listener: TcpListener) {
     for _ in 0..u64::MAX {
         match listener.accept() {
-            Ok((socket, _from)) => admit(&rt, &it, socket),
+            Ok((socket, _from)) => admit(&rt, &shared, socket),
             Err(_) => thread::sleep(&rt, Duration::from_millis(50)),
         }
-        if it.is_over() {
+        if shared.is_over() {
             return;
         }
     }
 }
 
 /// Lets a client in, in a thread of its own, if there aren't too many.
-fn admit<R: Runner>(rt: &R, it: &Arc<Shared>, socket: TcpStream) {
-    if it.clients.fetch_add(1, Ordering::SeqCst) >= MOST_CLIENTS {
-        it.clients.fetch_sub(1, Ordering::SeqCst);
+fn admit<R: Runner>(rt: &R, shared: &Arc<Shared>, socket: TcpStream) {
+    if shared.clients.fetch_add(1, Ordering::SeqCst) >= MOST_CLIENTS {
+        shared.clients.fetch_sub(1, Ordering::SeqCst);
         let _untold = turn_away(rt, &socket).is_err();
         return;
     }
-    let theirs: Result<Arc<Shared>, AllocError> = it.clone();
+    let theirs: Result<Arc<Shared>, AllocError> = shared.clone();
     let Ok(theirs) = theirs else {
-        it.clients.fetch_sub(1, Ordering::SeqCst);
+        shared.clients.fetch_sub(1, Ordering::SeqCst);
         return;
     };
     let own = *rt;
     if thread::spawn(rt, move || client_thread(own, theirs, socket)).is_err() {
-        it.clients.fetch_sub(1, Ordering::SeqCst);
+        shared.clients.fetch_sub(1, Ordering::SeqCst);
     }
 }
 
@@ -244,17 +247,17 @@ fn turn_away<R: Runner>(rt: &R, socket: &TcpStream) -> io::Result<()> {
 }
 
 /// One client's thread.
-fn client_thread<R: Runner>(rt: R, it: Arc<Shared>, socket: TcpStream) {
-    let it: &Shared = &it;
-    let _ended = serve_client(&rt, it, &socket).is_err();
-    it.clients.fetch_sub(1, Ordering::SeqCst);
+fn client_thread<R: Runner>(rt: R, shared: Arc<Shared>, socket: TcpStream) {
+    let shared: &Shared = &shared;
+    let _ended = serve_client(&rt, shared, &socket).is_err();
+    shared.clients.fetch_sub(1, Ordering::SeqCst);
 }
 
 /// Serves a client until it goes.
-fn serve_client<R: Runner>(rt: &R, it: &Shared, socket: &TcpStream) -> io::Result<()> {
+fn serve_client<R: Runner>(rt: &R, shared: &Shared, socket: &TcpStream) -> io::Result<()> {
     socket.set_nodelay(true)?;
-    match converse(rt, it, socket) {
-        Ok(Some(from)) => serve_follower(rt, it, socket, from),
+    match converse(rt, shared, socket) {
+        Ok(Some(from)) => serve_follower(rt, shared, socket, from),
         Ok(None) => Ok(()),
         Err(error) => {
             if error.kind() == io::ErrorKind::TimedOut
@@ -271,18 +274,18 @@ fn serve_client<R: Runner>(rt: &R, it: &Shared, socket: &TcpStream) -> io::Resul
 /// one asks for the stream.
 fn converse<R: Runner>(
     rt: &R,
-    it: &Shared,
+    shared: &Shared,
     socket: &TcpStream,
 ) -> io::Result<Option<Option<Position>>> {
     let deadline = Deadline::new(rt, TO_COME)?;
-    let mut connection = Connection::new(it.alloc, it.keys, config());
+    let mut connection = Connection::new(shared.alloc, shared.keys, config());
     let mut door = Door {
-        alloc: it.alloc,
-        policy: it.policy(),
-        scope: it.scope,
+        alloc: shared.alloc,
+        policy: shared.policy(),
+        scope: shared.scope,
         cluster: Reach {
             rt,
-            it,
+            shared,
             handed: GhostRecord::new(),
         },
         follow: None,
@@ -323,7 +326,7 @@ fn talk<R: Runner>(
 /// Answers what was read. Returns `true` once the connection is done.
 fn answer_some<R: Runner>(connection: &mut Connection, door: &mut Door<'_, Reach<'_, R>>) -> bool {
     connection.advance(door);
-    door.follow.is_some() || door.cluster.it.is_over() || connection.is_done()
+    door.follow.is_some() || door.cluster.shared.is_over() || connection.is_done()
 }
 
 /// Writes or reads, as the connection wants.
@@ -394,7 +397,17 @@ impl<'a, R: Clock + 'static> Write for Timed<'a, R> {
 impl<'a, R: Clock + 'static> Timed<'a, R> {
     /// Begins the time anew, in which a request has to come or answers have to be taken, unless it
     /// runs.
-    fn turn(&mut self, writes: bool) -> io::Result<()> {
+    fn turn(&mut self, writes: bool) -> io::Result<()>
+        ensures runs { self.old.writes ≡ writes → self.new ≡ self.old }
+        ensures begins { self.old.writes ≢ writes →
+            OnOk result (as_nanos self.new.deadline.whole ≡ time_for writes * 1_000_000) }
+        ensures side { OnOk result (self.new.writes ≡ writes) }
+        ensures fault { OnErr result (self.new ≡ self.old) }
+        ensures rest { self.new ≡ record self.old {
+          deadline = self.new.deadline;
+          writes = self.new.writes;
+        } }
+    {
         if self.writes == writes {
             return Ok(());
         }

@@ -30,7 +30,7 @@ const BUSY: &[u8] =
 
 /// The bytes that are sent next, and the number of the last event in them.
 #[derive(Drop)]
-struct Batch {
+struct Chunk {
     bytes: Vec<u8>,
     number: u64,
 }
@@ -38,55 +38,55 @@ struct Batch {
 /// Serves a follower, if there aren't too many.
 pub(crate) fn serve_follower<R: Runner>(
     rt: &R,
-    it: &Shared,
+    shared: &Shared,
     socket: &TcpStream,
     from: Option<Position>,
 ) -> io::Result<()> {
-    if it.streams.fetch_add(1, Ordering::SeqCst) >= MOST_STREAMS {
-        it.streams.fetch_sub(1, Ordering::SeqCst);
+    if shared.streams.fetch_add(1, Ordering::SeqCst) >= MOST_STREAMS {
+        shared.streams.fetch_sub(1, Ordering::SeqCst);
         return write_all(rt, socket, BUSY, Deadline::new(rt, TO_TAKE)?);
     }
-    let ended = stream_on(rt, it, socket, from);
-    it.streams.fetch_sub(1, Ordering::SeqCst);
+    let ended = stream_on(rt, shared, socket, from);
+    shared.streams.fetch_sub(1, Ordering::SeqCst);
     ended
 }
 
 /// Sends events as they come, until the follower goes, doesn't take them, or the gateway ends.
 fn stream_on<R: Runner>(
     rt: &R,
-    it: &Shared,
+    shared: &Shared,
     socket: &TcpStream,
     from: Option<Position>,
 ) -> io::Result<()> {
     write_all(rt, socket, HEAD, Deadline::new(rt, TO_TAKE)?)?;
     let mut number = match from {
-        Some(at) if at.life == it.life => at.number,
+        Some(at) if at.life == shared.life => at.number,
         _ => u64::MAX,
     };
     for _ in 0..u64::MAX {
-        if it.is_over() {
+        if shared.is_over() {
             return Ok(());
         }
-        let batch = next_batch(rt, it, number)?;
-        number = batch.number;
-        write_all(rt, socket, &batch.bytes, Deadline::new(rt, TO_TAKE)?)?;
+        let chunk = next_chunk(rt, shared, number)?;
+        number = chunk.number;
+        write_all(rt, socket, &chunk.bytes, Deadline::new(rt, TO_TAKE)?)?;
     }
     Ok(())
 }
 
 /// Returns the events after a number; a beat if there is none for a while; or that all must be
 /// loaded anew.
-fn next_batch<R: Runner>(rt: &R, it: &Shared, number: u64) -> Result<Batch, AllocError> {
-    let book = it.book.lock(rt);
+fn next_chunk<R: Runner>(rt: &R, shared: &Shared, number: u64) -> Result<Chunk, AllocError> {
+    let book = shared.book.lock(rt);
     let limit = Duration::from_secs(BEAT);
-    let (book, _late) = it.changed.wait_timeout_while(rt, book, limit, |book| {
-        book.last() == number && !it.is_over()
+    let (book, _late) = shared.changed.wait_timeout_while(rt, book, limit, |book| {
+        book.last() == number && !shared.is_over()
     });
-    let mut bytes = Vec::new(it.alloc);
+    let mut bytes = Vec::new(shared.alloc);
     let Some(events) = book.after(number) else {
-        let at = book.position(it.life);
-        bytes.extend_from_slice(restarted_text(it.alloc, at)?.as_bytes())?;
-        return Ok(Batch {
+        let at = book.position(shared.life);
+        bytes.extend_from_slice(restarted_text(shared.alloc, at)?.as_bytes())?;
+        return Ok(Chunk {
             bytes,
             number: at.number,
         });
@@ -95,15 +95,15 @@ fn next_batch<R: Runner>(rt: &R, it: &Shared, number: u64) -> Result<Batch, Allo
     for event in events {
         last = last.saturating_add(1);
         let at = Position {
-            life: it.life,
+            life: shared.life,
             number: last,
         };
-        bytes.extend_from_slice(event_text(it.alloc, at, event)?.as_bytes())?;
+        bytes.extend_from_slice(event_text(shared.alloc, at, event)?.as_bytes())?;
     }
     if bytes.is_empty() {
-        bytes.extend_from_slice(beat_text(it.alloc, time_now(rt))?.as_bytes())?;
+        bytes.extend_from_slice(beat_text(shared.alloc, time_now(rt))?.as_bytes())?;
     }
-    Ok(Batch {
+    Ok(Chunk {
         bytes,
         number: last,
     })

@@ -81,9 +81,15 @@ pub(crate) fn questions_answer(
 }
 
 /// Returns the answer about all members.
-pub(crate) fn members_answer(it: &Shared, book: &Book) -> Result<Answer, AllocError> {
+pub(crate) fn members_answer(shared: &Shared, book: &Book) -> Result<Answer, AllocError> {
     let views = book.members()?;
-    let body = members_text(it.alloc, it.cluster, it.scope, it.proposing(), &views)?;
+    let body = members_text(
+        shared.alloc,
+        shared.cluster,
+        shared.scope,
+        shared.proposing(),
+        &views,
+    )?;
     Ok(good_answer(Kind::Json, body))
 }
 
@@ -97,13 +103,18 @@ pub(crate) fn metrics_answer(alloc: Global, book: &Book) -> Result<Answer, Alloc
 
 /// Returns whether the cluster can decide: n - t members answer and have as many links as they
 /// need.
-pub(crate) fn ready_answer(it: &Shared, book: &Book) -> Result<Answer, AllocError> {
-    let count = linked_count(book, it.scope.size)?;
-    it.scope.size.recall();
-    let needed = usize::from(it.scope.size.n() - it.scope.size.t());
+pub(crate) fn ready_answer(shared: &Shared, book: &Book) -> Result<Answer, AllocError> {
+    let count = linked_count(book, shared.scope.size)?;
+    shared.scope.size.recall();
+    let needed = usize::from(shared.scope.size.n() - shared.scope.size.t());
     let ready = needed <= count;
     let status = if ready { 200 } else { 503 };
-    answer_of(it.alloc, status, Kind::Json, ready_text(ready).as_bytes())
+    answer_of(
+        shared.alloc,
+        status,
+        Kind::Json,
+        ready_text(ready).as_bytes(),
+    )
 }
 
 /// Returns how many members answer and have as many links as they need to decide.
