@@ -148,8 +148,8 @@ impl<D: Disk, J: Naming, G: Gate, R: Wait + Clock> Reader<'_, D, J, G, R> {
         unreachable!()
     }
 
-    /// Reads a piece, and hands in what it gives: `on` where the session goes on, `off` where it
-    /// ended.
+    /// Reads a piece, and hands in what it gives. The clause `on` is of a session that goes on,
+    /// `off` of one that ended.
     fn turn<S: Stream, T: Tosser>(
         &self,
         seat: &mut Seat<J>,

@@ -717,7 +717,7 @@ fn see<J: Naming>(seen: &mut Witness<J>, after: Witness<J>, events: &[(Statement
     }
 }
 
-/// Notes a group in the account once there is room for as many entries. Where there isn't, or the
+/// Counts a group in the account once there is room for as many entries. If there isn't, or the
 /// account is full, it stays.
 fn make_ready<J: Naming>(
     history: &mut History,

@@ -77,20 +77,20 @@ impl<D, J: Naming> Line<D, J> {
     }
 
     /// Puts what this link hands in into its place, where it waits. A link waits for one answer at
-    /// a time. False where there is no such link.
-    pub(crate) fn enter(&mut self, link: u8, events: Vec<(u8, Statement, Toss)>) -> bool {
-        match self.slots.get_mut(usize::from(link)) {
-            Some(slot) => {
-                *slot = Slot::Waits(events);
-                true
-            }
-            None => false,
+    /// a time, and each member has a place.
+    pub(crate) fn enter(&mut self, link: u8, events: Vec<(u8, Statement, Toss)>) {
+        if let Some(slot) = self.slots.get_mut(usize::from(link)) {
+            *slot = Slot::Waits(events);
         }
     }
 
     /// Returns what came of these statements of the link, if they were answered; its place is free
     /// then.
-    pub(crate) fn leave(&mut self, link: u8, events: &[(Statement, Toss)]) -> Option<Outcome<J>>
+    pub(crate) fn take_answer(
+        &mut self,
+        link: u8,
+        events: &[(Statement, Toss)],
+    ) -> Option<Outcome<J>>
         ensures { IfSome result (λ outcome. HasCome D (heard_from link events.now) outcome) }
     {
         let slot = self.slots.get_mut(usize::from(link))?;
@@ -162,9 +162,9 @@ impl<D, J: Naming> Line<D, J> {
         self.slots.iter().any(|slot| slot.waits())
     }
 
-    /// Leaves the answers of a group that was heard. What waits for want of memory, so that it is
-    /// in no group, is refused.
-    pub(crate) fn give(&mut self, heard: HeardGroup<D, J>) {
+    /// Puts the answers of a group that was heard into the links' places. What waits for want of
+    /// memory, so that it is in no group, is refused.
+    pub(crate) fn answer(&mut self, heard: HeardGroup<D, J>) {
         let HeardGroup {
             group,
             outcome,
@@ -288,7 +288,8 @@ impl<D, J: Naming> Model for Answered<D, J> {
 }
 
 impl<D, J: Naming> Answered<D, J> {
-    /// Returns what came of these statements of the peer, if it is these that were answered.
+    /// Returns what came of these statements of the peer. It is always these that were answered:
+    /// they are compared so that the contract can say so.
     fn outcome_of(&self, peer: u8, events: &[(Statement, Toss)]) -> Option<Outcome<J>>
         ensures { IfSome result (λ outcome. HasCome D (heard_from peer events.now) outcome) }
     {

@@ -36,7 +36,8 @@ impl Pace {
         })
     }
 
-    /// Returns once the peer may hand these statements in, which it does. The own link may at once.
+    /// Returns once the peer may hand these statements in, which it does. The member itself may at
+    /// once.
     pub(crate) fn wait<R: Wait>(&self, rt: &R, peer: u8, events: &[(Statement, Toss)]) {
         if peer == self.header.me() || !has_own_initial(events, peer) {
             return;

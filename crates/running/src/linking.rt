@@ -78,7 +78,7 @@ impl<D: Disk, J: Life> Shared<D, J> {
             .sockets
             .lock(rt)
             .enter_to(dialled, peer, second)?;
-        let reception = self.write_at(rt, peer, socket, version);
+        let reception = self.write_over(rt, peer, socket, version);
         self.admission.sockets.lock(rt).leave(socket);
         reception
     }
@@ -98,7 +98,7 @@ impl<D: Disk, J: Life> Shared<D, J> {
 
     /// Writes the link to a peer over the socket of that number, and answers what came of it; none
     /// where that is gone.
-    fn write_at<R: Machine>(
+    fn write_over<R: Machine>(
         &self,
         rt: &R,
         peer: u8,

@@ -6,7 +6,7 @@ use Rattle.member.specs.Groups.{hearings}
 use Rattle.node.specs.Lines.{HasCome}
 use Rattle.node.specs.declared.group.Part.{Part}
 use Rattle.node.proofs.Shares.{first_of_all, others_of_all, came_of_all}
-use Rattle.node.proofs.line.Line.give.Goals as goal
+use Rattle.node.proofs.line.Line.answer.Goals as goal
 
 pub invariant_of-t-29 : goal.invariant_of-t-29
 invariant_of-t-29 g c =
