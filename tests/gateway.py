@@ -298,6 +298,7 @@ def questions_are_told_by_more_than_t(folder, port):
         letters = "".join("1" if it == 7 else "01"[it % 2] if 20 <= it < 40 else "p" if it == 300 else "-" for it in range(512))
         found += differs("the letters", (states["questions"], states["from"], states["to"], states["states"]), (512, 0, 512, letters))
         found += differs("a range", gateway.json("/v1/questions?from=18&to=24")["states"], letters[18:24])
+        soon(lambda: len(gateway.json("/v1/members")["members"][3]["contradicts"]) >= 21)
         members = gateway.json("/v1/members")
         told = [it["question"] for it in members["members"][3]["contradicts"]]
         found += differs("who contradicts", [len(it["contradicts"]) for it in members["members"]], [0, 0, 0, 21])
