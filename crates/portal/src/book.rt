@@ -486,10 +486,12 @@ impl Book {
     pub(crate) fn motion(&self, number: u64) -> Option<Motion>
         ensures { result ≡ find (λ motion. motion.number == number) self.now.motions.items }
     {
-        self.motions
-            .iter()
-            .find(|motion| motion.number == number)
-            .copied()
+        for motion in &self.motions {
+            if motion.number == number {
+                return Some(*motion);
+            }
+        }
+        None
     }
 
     /// Returns the position of the last event in this life.
