@@ -110,8 +110,8 @@ impl<D: Disk, J: Life> Shared<D, J> {
         chain.standing.rests.store(rests, Ordering::SeqCst);
     }
 
-    /// Returns `true` if a question was proposed to this member and isn't decided. Where nobody can
-    /// look, since another thread has the book for a while, it may be so.
+    /// Returns `true` if a question was proposed to this member and isn't decided, and also if
+    /// another thread has the book for so long that nobody can look.
     fn is_undone<R: Machine>(&self, rt: &R) -> bool {
         match self.try_book(rt) {
             Some(book) => has_open(&book),
