@@ -6,9 +6,8 @@ ghost use Rattle.disk.specs.Replies.{replies_after};
 ghost use Rattle.disk.specs.Laws.{counts_now, only_now, may_leave_seen};
 
 use crate::first_error::FirstError;
-use crate::named::NamedFile;
+use crate::named::{NamedFile, RealFile};
 use crate::reply::{DiskReply, Replies};
-use crate::system::RealFile;
 use crate::{DeviceFault, Disk};
 use ghost_record::GhostRecord;
 use std::alloc::{AllocError, Global};

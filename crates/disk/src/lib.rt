@@ -14,10 +14,8 @@ mod log;
 mod memory;
 mod named;
 mod reply;
-mod system;
 #[cfg(test)]
 mod tests;
-mod whole;
 
 pub use crash::Pick;
 pub use device::{DeviceFault, Disk};

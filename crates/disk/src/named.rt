@@ -1,17 +1,23 @@
-//! An open file and the folder that has its name.
-ghost use Rattle.std.specs.Prelude.{◌≡◌, ◌↔◌, true, false, Ok, IfOk, IsOk, OnOk, OnErr};
+//! A file by its name, and the folder that has the name: calls that are done whole, over those of
+//! the system, which may move a part and be interrupted. Behind them stand the trait of such a
+//! file, and the real one, each of whose methods is one call.
+ghost use Rattle.std.specs.Prelude.{◌≡◌, ◌≤◌, true, false, Ok, length, take, IfOk, OnOk, OnErr};
 ghost use Rattle.disk.specs.Model.{CountsFailures};
-ghost use Rattle.disk.specs.System.{with_told, with_read, with_written, with_synced, WroteSome};
+ghost use Rattle.disk.specs.System.{Done, nothing_done, with_told, with_read, with_written, with_synced, WroteSome};
 
 use crate::DeviceFault;
+use crate::account::{Account, SystemCall};
 use crate::failures::{Failure, Failures};
 use crate::first_error::{FirstError, note_for};
-use crate::system::SystemFile;
-use crate::whole::{length_of, read_whole, settle, write_whole};
 use ghost_record::GhostRecord;
 use std::alloc::{AllocError, Global};
-use std::io;
+use std::fs::File;
+use std::io::{self, ErrorKind};
+use std::os::unix::fs::FileExt;
 use std::sync::Arc;
+
+/// The most times that a call is made again after a signal interrupted it.
+const TRIES: u32 = 1_000_000;
 
 /// An open file, and the folder in which its name stands. Each call that fails is counted.
 #[derive(Drop)]
@@ -140,4 +146,203 @@ fn settle_both<F: SystemFile>(file: &mut F, folder: &mut F, named: bool) -> io::
         return Ok(());
     }
     settle(folder)
+}
+
+/// Returns how many bytes the file has.
+fn length_of<F: SystemFile>(file: &mut F) -> io::Result<usize>
+    ensures ok { IfOk result (λ n. F.done file.new ≡ with_told (F.done file.old) n) }
+    ensures err { OnErr result (F.done file.new ≡ F.done file.old) }
+{
+    for _ in 0..TRIES {
+        let done = file.len();
+        if !is_interrupted(&done) {
+            return done;
+        }
+    }
+    Err(io::Error::from(ErrorKind::Interrupted))
+}
+
+/// Puts the file on the disk.
+fn settle<F: SystemFile>(file: &mut F) -> io::Result<()>
+    ensures ok { OnOk result (F.done file.new ≡ with_synced (F.done file.old)) }
+    ensures err { OnErr result (F.done file.new ≡ F.done file.old) }
+{
+    for _ in 0..TRIES {
+        let done = file.sync();
+        if !is_interrupted(&done) {
+            return done;
+        }
+    }
+    Err(io::Error::from(ErrorKind::Interrupted))
+}
+
+/// Fills the buffer with the bytes from a place on. Where the file ends before, that is an error.
+fn read_whole<F: SystemFile>(file: &mut F, at: usize, buf: &mut [u8]) -> io::Result<()>
+    ensures ok { OnOk result (F.done file.new ≡ with_read (F.done file.old) at buf.new) }
+{
+    let mut done = 0;
+    while done < buf.len() {
+        let Some(place) = at.checked_add(done) else {
+            return Err(io::Error::from(ErrorKind::InvalidInput));
+        };
+        let count = read_some(file, place, &mut buf[done..])?;
+        if count == 0 {
+            return Err(io::Error::from(ErrorKind::UnexpectedEof));
+        }
+        done += count;
+    }
+    Ok(())
+}
+
+/// Reads once, and again where a signal interrupted it.
+fn read_some<F: SystemFile>(file: &mut F, at: usize, buf: &mut [u8]) -> io::Result<usize>
+    ensures within { IfOk result (λ n. n ≤ length buf.new) }
+    ensures ok { IfOk result
+        (λ n. F.done file.new ≡ with_read (F.done file.old) at (take n buf.new)) }
+    ensures err { OnErr result (F.done file.new ≡ F.done file.old) }
+{
+    for _ in 0..TRIES {
+        let done = file.read_at(at, buf);
+        if !is_interrupted(&done) {
+            return done;
+        }
+    }
+    Err(io::Error::from(ErrorKind::Interrupted))
+}
+
+/// Writes all of the bytes from a place on. After an error a beginning of them was written.
+fn write_whole<F: SystemFile>(file: &mut F, at: usize, bytes: &[u8]) -> io::Result<()>
+    ensures ok { OnOk result (F.done file.new ≡ with_written (F.done file.old) at bytes.now) }
+    ensures err { OnErr result (WroteSome (F.done file.old) (F.done file.new) at bytes.now) }
+{
+    let mut place = at;
+    let mut rest = bytes;
+    while !rest.is_empty() {
+        let count = match write_some(file, place, rest) {
+            Ok(count) => count,
+            Err(error) => return Err(error),
+        };
+        if count == 0 {
+            return Err(io::Error::from(ErrorKind::WriteZero));
+        }
+        let Some(next) = place.checked_add(count) else {
+            return Err(io::Error::from(ErrorKind::InvalidInput));
+        };
+        place = next;
+        rest = &rest[count..];
+    }
+    Ok(())
+}
+
+/// Writes once, and again where a signal interrupted it.
+fn write_some<F: SystemFile>(file: &mut F, at: usize, bytes: &[u8]) -> io::Result<usize>
+    ensures within { IfOk result (λ n. n ≤ length bytes.now) }
+    ensures ok { IfOk result
+        (λ n. F.done file.new ≡ with_written (F.done file.old) at (take n bytes.now)) }
+    ensures err { OnErr result (F.done file.new ≡ F.done file.old) }
+{
+    for _ in 0..TRIES {
+        let done = file.write_at(at, bytes);
+        if !is_interrupted(&done) {
+            return done;
+        }
+    }
+    Err(io::Error::from(ErrorKind::Interrupted))
+}
+
+/// Returns `true` if a signal interrupted the call.
+fn is_interrupted<T>(done: &io::Result<T>) -> bool
+    ensures { IfOk done.now (λ _. result ≡ false) }
+{
+    match done {
+        Ok(_) => false,
+        Err(error) => error.kind() == ErrorKind::Interrupted,
+    }
+}
+
+/// An open file of the system, or a folder. A read or a write may move less than it is asked for,
+/// and each call may fail, also where a signal interrupts it.
+///
+/// It tells, for clauses alone, what its calls did. That a file holds what was written, and keeps
+/// it after a sync, is not said: that is the premise on a real file.
+pub(crate) trait SystemFile {
+    /// The calls on it so far.
+    ghost done: { Self → Done };
+
+    /// Returns how many bytes it has.
+    fn len(&mut self) -> io::Result<usize>
+        ensures ok { IfOk result (λ n. done self.new ≡ with_told (done self.old) n) }
+        ensures err { OnErr result (done self.new ≡ done self.old) };
+
+    /// Reads some bytes from a place on into the front of the buffer, and answers how many: 0 at
+    /// the end.
+    fn read_at(&mut self, at: usize, buf: &mut [u8]) -> io::Result<usize>
+        ensures within { IfOk result (λ n. n ≤ length buf.new) }
+        ensures ok { IfOk result
+            (λ n. done self.new ≡ with_read (done self.old) at (take n buf.new)) }
+        ensures err { OnErr result (done self.new ≡ done self.old) };
+
+    /// Writes some of these bytes, from their front, from a place on, and answers how many.
+    fn write_at(&mut self, at: usize, bytes: &[u8]) -> io::Result<usize>
+        ensures within { IfOk result (λ n. n ≤ length bytes.now) }
+        ensures ok { IfOk result
+            (λ n. done self.new ≡ with_written (done self.old) at (take n bytes.now)) }
+        ensures err { OnErr result (done self.new ≡ done self.old) };
+
+    /// Puts it on the disk.
+    fn sync(&mut self) -> io::Result<()>
+        ensures ok { OnOk result (done self.new ≡ with_synced (done self.old)) }
+        ensures err { OnErr result (done self.new ≡ done self.old) };
+}
+
+/// A file of the operating system. Each method is one call of it. Nothing else reaches its account:
+/// the code above is generic over the file.
+#[derive(Drop)]
+pub(crate) struct RealFile {
+    file: File,
+    account: GhostRecord<Account>,
+}
+
+impl RealFile {
+    ghost use Rattle.disk.specs.Real.{real_done};
+
+    /// A file that was just opened.
+    pub(crate) fn new(file: File) -> RealFile
+        ensures { real_done result ≡ nothing_done }
+    {
+        RealFile {
+            file,
+            account: GhostRecord::new(),
+        }
+    }
+}
+
+impl SystemFile for RealFile {
+    ghost use Rattle.disk.specs.Real.{real_done};
+
+    ghost done = { real_done };
+
+    fn len(&mut self) -> io::Result<usize> {
+        let length = self.file.metadata()?.len() as usize;
+        self.account = self.account.then(&SystemCall::Told(length));
+        Ok(length)
+    }
+
+    fn read_at(&mut self, at: usize, buf: &mut [u8]) -> io::Result<usize> {
+        let count = self.file.read_at(buf, at as u64)?;
+        self.account = self.account.then(&SystemCall::Read(at, &buf[..count]));
+        Ok(count)
+    }
+
+    fn write_at(&mut self, at: usize, bytes: &[u8]) -> io::Result<usize> {
+        let count = self.file.write_at(bytes, at as u64)?;
+        self.account = self.account.then(&SystemCall::Wrote(at, &bytes[..count]));
+        Ok(count)
+    }
+
+    fn sync(&mut self) -> io::Result<()> {
+        self.file.sync_all()?;
+        self.account = self.account.then(&SystemCall::Synced);
+        Ok(())
+    }
 }

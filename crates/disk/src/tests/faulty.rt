@@ -4,8 +4,7 @@ ghost use Rattle.std.specs.Prelude.{◌≡◌, ◌≤◌, length};
 use crate::DeviceFault;
 use crate::account::{Account, SystemCall};
 use crate::file::folder_of;
-use crate::named::NamedFile;
-use crate::system::SystemFile;
+use crate::named::{NamedFile, SystemFile};
 use ghost_record::GhostRecord;
 use std::io::{self, ErrorKind};
 

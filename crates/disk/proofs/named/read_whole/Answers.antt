@@ -1,6 +1,6 @@
 use Rattle.std.proofs.Common.{rules, ◌≡◌, ◌+◌, refl}
 use Rattle.disk.proofs.Placing.{reads_on}
-use Rattle.disk.proofs.whole.read_whole.Goals as goal
+use Rattle.disk.proofs.named.read_whole.Goals as goal
 
 pub loop-done-preserved : goal.loop-done-preserved
 loop-done-preserved g c =

@@ -1,5 +1,5 @@
 use Rattle.std.proofs.Common.{◌≡◌}
-use Rattle.disk.proofs.whole.write_some.Given as goal
+use Rattle.disk.proofs.named.write_some.Given as goal
 
 abbrev pub invariant-loop : goal.invariant-loop
 invariant-loop g l = g.F.SystemFile.done l.file ≡ g.F.SystemFile.done l.initial.file

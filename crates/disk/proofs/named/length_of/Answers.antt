@@ -1,6 +1,6 @@
 use Rattle.std.proofs.Common.{rules, ◌∙◌}
 use Rattle.disk.proofs.Placing.{interrupted}
-use Rattle.disk.proofs.whole.length_of.Goals as goal
+use Rattle.disk.proofs.named.length_of.Goals as goal
 
 pub loop-preserved : goal.loop-preserved
 loop-preserved g c =

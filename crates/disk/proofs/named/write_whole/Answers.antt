@@ -1,6 +1,6 @@
 use Rattle.std.proofs.Common.{rules, ◌≡◌, ◌+◌}
 use Rattle.disk.proofs.Placing.{writes_on, writes_part}
-use Rattle.disk.proofs.whole.write_whole.Goals as goal
+use Rattle.disk.proofs.named.write_whole.Goals as goal
 
 pub loop-rest-preserved : goal.loop-rest-preserved
 loop-rest-preserved g c =
