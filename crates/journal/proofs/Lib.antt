@@ -1,5 +1,6 @@
 mod Append
 pub mod Batching
+mod Committing
 pub mod Crash
 pub mod Drafts
 pub mod Endings

@@ -9,9 +9,8 @@ ghost use Rattle.journal.specs.Drafts.{IsNoJournal, IsDraftOf, HasBegun, HasNotB
 
 use crate::JournalFault;
 use crate::header::{HEADER, new_file};
-use crate::journal::Journal;
+use crate::journal::{Journal, Tail};
 use crate::open::write_new;
-use crate::tail::Tail;
 use disk::{DeviceFault, Disk};
 use std::alloc::Global;
 use terms::{Header, Record};

@@ -37,7 +37,6 @@
 #![tactic(auto)]
 
 mod batches;
-mod commit;
 mod draft;
 mod fault;
 mod header;
@@ -49,7 +48,6 @@ mod read;
 mod record;
 mod release;
 mod spare;
-mod tail;
 
 pub use batches::Batches;
 pub use draft::Draft;

@@ -2,7 +2,7 @@ use Rattle.std.proofs.Common.{List, ℕ, [], ◌∷◌, ◌++◌, take}
 use Rattle.disk.proofs.Moments.{started}
 use Rattle.journal.specs.Words.{batch_body, IsCommit}
 use Rattle.journal.proofs.Crash.{stays_shut}
-use Rattle.journal.proofs.tail.Tail.add.Goals as goal
+use Rattle.journal.proofs.journal.Tail.add.Goals as goal
 
 pub returns-then-self-len-clause-any_moment : goal.returns-then-self-len-clause-any_moment
 returns-then-self-len-clause-any_moment g c keeps =
