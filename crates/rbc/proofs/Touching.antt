@@ -4,8 +4,8 @@ use Rattle.std.proofs.lemmas.Bool.{cases_eq, cases_lt, false≢true}
 use Rattle.std.proofs.lemmas.List.{places}
 use Rattle.std.proofs.lemmas.Map.Steps.{length-le_from_distinct_below}
 use Rattle.std.specs.List.{AllByRecursion, IsDistinct, list_any, position_from}
-use Rattle.rbc.specs.declared.known.Known.{Known}
-use Rattle.rbc.specs.declared.touched.Cell.{Cell}
+use Rattle.rbc.specs.declared.rules.Known.{Known}
+use Rattle.rbc.specs.declared.table.Cell.{Cell}
 use Rattle.rbc.specs.Known.{no_known}
 use Rattle.rbc.specs.Touching.{AreApart, AreNamed, IsAt, IsTable, no_cell, spot_at, touched_known, touched_made}
 

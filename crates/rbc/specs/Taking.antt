@@ -4,7 +4,7 @@ use Rattle.terms_prelude.specs.Terms.{Size, Statement, FitsStep}
 use Rattle.rbc.specs.declared.Brought.{Brought}
 use Rattle.rbc.specs.declared.Taken.{Taken}
 use Rattle.rbc.specs.declared.Taken.TheVariants.{News, Repeat, Foreign}
-use Rattle.rbc.specs.declared.known.Known.{Known}
+use Rattle.rbc.specs.declared.rules.Known.{Known}
 use Rattle.rbc.specs.Known.{value_known, heard_known, accepted_known}
 use Rattle.rbc.specs.Due.{echo_for, ready_for}
 

@@ -1,8 +1,8 @@
 -- What the cells of a question say of a spot.
 use Rattle.std.specs.Prelude.{ℕ, ◌≡◌, ◌≢◌, ◌<◌, Bool, cond, ◌==◌, List, [], ◌∷◌, get_or, length}
 use Rattle.std.specs.List.{list_any}
-use Rattle.rbc.specs.declared.known.Known.{Known}
-use Rattle.rbc.specs.declared.touched.Cell.{Cell}
+use Rattle.rbc.specs.declared.rules.Known.{Known}
+use Rattle.rbc.specs.declared.table.Cell.{Cell}
 use Rattle.rbc.specs.Known.{no_known}
 
 -- what is known of the spot: what its cell says, and else nothing

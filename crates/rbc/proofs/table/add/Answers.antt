@@ -1,7 +1,7 @@
 use Rattle.std.proofs.Common.{◌≡◌, ◌<◌, ℕ, List, [], ◌∷◌, ◌++◌, length, set, sym, ap, subst, ◌∙◌}
 use Rattle.rbc.specs.Words.{Cell, IsTable, no_known, touched_known}
 use Rattle.rbc.proofs.Touching.{room_for, same_with, table_with}
-use Rattle.rbc.proofs.touched.add.Goals as goal
+use Rattle.rbc.proofs.table.add.Goals as goal
 
 -- the cell that is added
 abbrev cell : ℕ → Cell

@@ -3,7 +3,7 @@ use Rattle.std.proofs.lemmas.Bool.{eq-eqb}
 use Rattle.std.proofs.lemmas.List.{get_or_default}
 use Rattle.rbc.specs.Words.{Cell, IsAt, Known, Receives, no_cell, touched_known}
 use Rattle.rbc.proofs.Touching.{known_at, tagged_written}
-use Rattle.rbc.proofs.touched.Touched.receive.Goals as goal
+use Rattle.rbc.proofs.table.Touched.receive.Goals as goal
 
 pub returns-clause-taken : goal.returns-clause-taken
 returns-clause-taken c = λ spot at.

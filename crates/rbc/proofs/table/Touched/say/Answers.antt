@@ -2,7 +2,7 @@ use Rattle.std.proofs.Common.{◌≡◌, List, cond, eqb, sym, ap, subst, ◌∙
 use Rattle.std.proofs.lemmas.List.{get_or_default}
 use Rattle.rbc.specs.Words.{Cell, IsAt, Known, say_known, no_cell, touched_known}
 use Rattle.rbc.proofs.Touching.{known_at, tagged_written}
-use Rattle.rbc.proofs.touched.Touched.say.Goals as goal
+use Rattle.rbc.proofs.table.Touched.say.Goals as goal
 
 pub returns : goal.returns
 returns c = λ spot at other.

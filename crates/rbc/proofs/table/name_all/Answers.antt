@@ -2,7 +2,7 @@ use Rattle.std.proofs.Common.{◌≡◌, arith, sym, ap, subst, ◌∙◌, ◌+�
 use Rattle.std.proofs.lemmas.List.{get_or_default}
 use Rattle.rbc.specs.Words.{AreNamed, Cell, no_cell, spot_at}
 use Rattle.rbc.proofs.Touching.{few_cells, one_named}
-use Rattle.rbc.proofs.touched.name_all.Goals as goal
+use Rattle.rbc.proofs.table.name_all.Goals as goal
 
 pub name-requires : goal.name-requires
 name-requires c = omega (arith, few_cells c.args.cells.now c.requires, c.loop-number-test.true)

@@ -2,7 +2,7 @@ use Rattle.std.proofs.Common.{sym, ap, subst, ◌∙◌}
 use Rattle.std.proofs.lemmas.List.{get_or_default}
 use Rattle.rbc.specs.Words.{Cell, IsAt, no_cell, touched_known}
 use Rattle.rbc.proofs.Touching.{known_at, nothing_at}
-use Rattle.rbc.proofs.touched.Touched.at.Goals as goal
+use Rattle.rbc.proofs.table.Touched.at.Goals as goal
 
 pub returns-in-Some : goal.returns-in-Some
 returns-in-Some c =

@@ -2,7 +2,7 @@ use Rattle.std.proofs.Common.{◌≡◌, ◌<◌, ◌-◌, ℕ, Option, Some, No
 use Rattle.std.proofs.lemmas.Bool.{false≢true}
 use Rattle.rbc.specs.Words.{Cell, IsAt, touched_made}
 use Rattle.rbc.proofs.Touching.{Found, found, unnamed}
-use Rattle.rbc.proofs.touched.number_of.Goals as goal
+use Rattle.rbc.proofs.table.number_of.Goals as goal
 
 pub returns-else-is_at-clause-none : goal.returns-else-is_at-clause-none
 returns-else-is_at-clause-none c =
