@@ -1,7 +1,7 @@
 use Rattle.std.proofs.Common.{List, ℕ, ◌++◌, take, ap, ◌∙◌}
-use Rattle.wire.specs.declared.held.TheConstants.{LONGEST_FRAME}
+use Rattle.wire.specs.declared.feeder.TheConstants.{LONGEST_FRAME}
 use Rattle.wire.proofs.Joining.{joined_all}
-use Rattle.wire.proofs.held.Held.join.Goals as goal
+use Rattle.wire.proofs.feeder.Held.join.Goals as goal
 
 pub returns-clause-same : goal.returns-clause-same
 returns-clause-same c =
