@@ -50,7 +50,8 @@ pub formed_behind : {D : Type 0} {old : Member D} {all : Vec Record} {before : �
     → OnOk heard (AreWellFormedFor header (drop before all.items))
 formed_behind {heard = Err e} header into formed = tt
 formed_behind {old = old} {all = all} {before = before} {heard = Ok h} header into formed =
-    subst (λ (l : List Record). AreWellFormedFor header l) (sym (behind_is old.records.items all.items before h into.count into.appends)) formed
+    subst (λ (l : List Record). AreWellFormedFor header l)
+    (sym (behind_is old.records.items all.items before h into.count into.appends)) formed
 
 -- a fault that doesn't stop the member leaves its list
 untouched_by : {D : Type 0} (old : Member D) (all : Vec Record) (heard : Result Heard CoreFault) (result : Result Heard MemberFault)
@@ -61,8 +62,10 @@ untouched_by old all heard (Ok h) left told stopping = tt
 untouched_by old all (Ok h) (Err f) left told stopping = λ goes_on. absurd (goes_on stopping)
 untouched_by old all (Err cores.NoSuchQuestion) (Err f) left told stopping = λ goes_on. left (λ e. cc)
 untouched_by old all (Err cores.NoSuchMember) (Err f) left told stopping = λ goes_on. left (λ e. cc)
-untouched_by old all (Err cores.Memory) (Err f) left told stopping = λ goes_on. let one : f ≡ Memory = cc in absurd (goes_on (subst Stops (sym one) tt))
-untouched_by old all (Err cores.Failed) (Err f) left told stopping = λ goes_on. let one : f ≡ Memory = cc in absurd (goes_on (subst Stops (sym one) tt))
+untouched_by old all (Err cores.Memory) (Err f) left told stopping =
+    λ goes_on. let one : f ≡ Memory = cc in absurd (goes_on (subst Stops (sym one) tt))
+untouched_by old all (Err cores.Failed) (Err f) left told stopping =
+    λ goes_on. let one : f ≡ Memory = cc in absurd (goes_on (subst Stops (sym one) tt))
 
 unchanged_by : {D : Type 0} (old : Member D) (core : Core) (all : Vec Record) (new : Member D) (result : Result Heard MemberFault)
     → IfErr result (λ f. (Stops f → ⊥) → all ≡ old.records)
@@ -73,17 +76,20 @@ unchanged_by old core all new (Err f) left changed =
     λ goes_on. changed goes_on ∙ (λ i. record old { core = core; records = left goes_on i })
 
 -- what was kept of what a core answered into the member's list
-pub kept_into : {D : Type 0} {disk : DiskGhosts D} {old : Member D} {core : Core} {all : Vec Record} {before : ℕ} {heard : Result Heard CoreFault}
-    {result : Result Heard MemberFault} {new : Member D} → HeardInto old all before heard
-    → KeptBehind disk (take before all.items) (record old { core = core; records = all }) core (λ h. reply_with h (drop before all.items)) heard result new
+pub kept_into : {D : Type 0} {disk : DiskGhosts D} {old : Member D} {core : Core} {all : Vec Record} {before : ℕ}
+    {heard : Result Heard CoreFault} {result : Result Heard MemberFault} {new : Member D} → HeardInto old all before heard
+    → KeptBehind disk (take before all.items) (record old { core = core; records = all }) core
+    (λ h. reply_with h (drop before all.items)) heard result new
     → Kept disk old core (heard_in old.records.items all.items) heard result new
 unfolding member_disk member_header member_gate member_saved member_is_stopped
 kept_into {D} {disk} {old} {core} {all} {before} {heard} {result} {new} into kept =
     let mid : Member D = record old { core = core; records = all } in
     let counted : KeptBehind disk (take before all.items) mid core (heard_in old.records.items all.items) heard result new =
-    subst (λ (n : ℕ). KeptBehind disk (take before all.items) mid core (λ h. reply_with h (drop n all.items)) heard result new) into.count kept in
+    subst (λ (n : ℕ). KeptBehind disk (take before all.items) mid core (λ h. reply_with h (drop n all.items)) heard result new)
+    into.count kept in
     let k : KeptBehind disk old.records.items mid core (heard_in old.records.items all.items) heard result new =
-    subst (λ (l : List Record). KeptBehind disk l mid core (heard_in old.records.items all.items) heard result new) (front_is into) counted in
+    subst (λ (l : List Record). KeptBehind disk l mid core (heard_in old.records.items all.items) heard result new)
+    (front_is into) counted in
     record {
       filed = k.filed;
       answer_is = k.answer_is;
@@ -114,15 +120,16 @@ pub record IsNamed {A : Type 0} (result : Result A MemberFault) (f g : A → Rep
   pub same : IfOk result (λ a. f a ≡ g a)
 
 -- the list is the member's own in the end
-pub same_reply : {D : Type 0} {disk : DiskGhosts D} {old : Member D} {core : Core} {all : Vec Record} {before : ℕ} {heard : Result Heard CoreFault}
-    {result : Result Heard MemberFault} {new : Member D} → HeardInto old all before heard
+pub same_reply : {D : Type 0} {disk : DiskGhosts D} {old : Member D} {core : Core} {all : Vec Record} {before : ℕ}
+    {heard : Result Heard CoreFault} {result : Result Heard MemberFault} {new : Member D} → HeardInto old all before heard
     → Kept disk old core (heard_in old.records.items all.items) heard result new
     → IsNamed result (heard_in old.records.items all.items) (reply_saved old new)
 unfolding member_saved
 same_reply {result = Err f} into kept = record { same = tt }
 same_reply {old = old} {all = all} {heard = heard} {result = Ok h} {new = new} into kept =
     let here : all.items ≡ old.records.items ++ records_of (heard_in old.records.items all.items h) =
-    subst (λ (o : Result Heard CoreFault). IfOk o (λ x. all.items ≡ old.records.items ++ records_of (heard_in old.records.items all.items x)))
+    subst (λ (o : Result Heard CoreFault).
+    IfOk o (λ x. all.items ≡ old.records.items ++ records_of (heard_in old.records.items all.items x)))
     kept.answer_is into.appends in
     record { same = ap (λ (l : List Record). heard_in old.records.items l h) (here ∙ sym kept.saved) }
 
@@ -131,11 +138,13 @@ pub reply_as : {A : Type 0} {result : Result A MemberFault} {f g : A → Reply} 
 reply_as {result = Err e} P named holds = tt
 reply_as {result = Ok a} P named holds = subst P named.same holds
 
-lives_as : {A D : Type 0} (disk : DiskGhosts D) (header : Header) (liars : ℕ → Bool) (w : World) (toss : ℕ) (event : Event) (result : Result A MemberFault) (old new : Member D) (f g : A → Reply)
+lives_as : {A D : Type 0} (disk : DiskGhosts D) (header : Header) (liars : ℕ → Bool) (w : World) (toss : ℕ) (event : Event)
+    (result : Result A MemberFault) (old new : Member D) (f g : A → Reply)
     → IfOk result (λ a. f a ≡ g a) → LivesBy f disk header liars w toss event result old new
     → LivesBy g disk header liars w toss event result old new
 lives_as disk header liars w toss event (Ok a) old new f g same lives =
-    subst (λ (r : Reply). Replies header w toss event r × DoesStep disk header liars w (world_step header.me event (records_of r) true) new) same lives
+    subst (λ (r : Reply).
+    Replies header w toss event r × DoesStep disk header liars w (world_step header.me event (records_of r) true) new) same lives
 lives_as disk header liars w toss event (Err Device) old new f g same lives = lives
 lives_as disk header liars w toss event (Err Memory) old new f g same lives = lives
 lives_as disk header liars w toss event (Err JournalFull) old new f g same lives = lives
@@ -143,9 +152,11 @@ lives_as disk header liars w toss event (Err Stopped) old new f g same lives = l
 lives_as disk header liars w toss event (Err NoSuchQuestion) old new f g same lives = lives
 lives_as disk header liars w toss event (Err NoSuchMember) old new f g same lives = lives
 
-pub event_as : {A D : Type 0} {disk : DiskGhosts D} {toss : ℕ} {event : Event} {result : Result A MemberFault} {old new : Member D} {f g : A → Reply}
+pub event_as : {A D : Type 0} {disk : DiskGhosts D} {toss : ℕ} {event : Event} {result : Result A MemberFault} {old new : Member D}
+    {f g : A → Reply}
     → IsNamed result f g → IsEventBy f disk toss event old result new → IsEventBy g disk toss event old result new
 event_as {disk = disk} {toss = toss} {event = event} {result = result} {old = old} {new = new} {f = f} {g = g} named e = record {
-  life = λ header liars w correct at comes. lives_as disk header liars w toss event result old new f g named.same (e.life header liars w correct at comes);
+  life = λ header liars w correct at comes.
+      lives_as disk header liars w toss event result old new f g named.same (e.life header liars w correct at comes);
   cut = e.cut;
 }

@@ -16,7 +16,7 @@ use Rattle.questions.specs.declared.answer.Answer.{Answer}
 use Rattle.questions.specs.declared.answer.CoreFault.{CoreFault}
 use Rattle.member.specs.declared.fault.MemberFault.{MemberFault}
 use Rattle.member.specs.declared.fault.MemberFault.TheVariants.{Device, Memory, JournalFull}
-use Rattle.member.specs.declared.group.Group.{Group}
+use Rattle.member.specs.declared.group.GroupAnswer.{GroupAnswer}
 use Rattle.member.specs.declared.member.Member.{Member}
 use Rattle.member.specs.declared.sealed.Sealed.{Sealed}
 use Rattle.member.specs.Answers.{gate_after}
@@ -92,7 +92,7 @@ Kept disk old core reply_in answer result new = KeptBehind disk (member_saved ol
 
 -- What a core, now this one, answered to a group was kept: the records of all answers were saved as one batch and the
 -- answers are given; or with a fault, which stops the member, nothing was.
-pub record KeptAll {D : Type 0} (disk : DiskGhosts D) (old : Member D) (core : Core) (heard : Result Group NoMemory) (result : Result (Vec Answer) MemberFault) (new : Member D) : Type 0 where
+pub record KeptAll {D : Type 0} (disk : DiskGhosts D) (old : Member D) (core : Core) (heard : Result GroupAnswer NoMemory) (result : Result (Vec Answer) MemberFault) (new : Member D) : Type 0 where
   pub filed : IsFiled disk new
   pub answers_are : IfOk result (λ answers. IfOk heard (λ group. answers ≡ group.answers))
   pub heard_is : OnOk result (IsOk heard)

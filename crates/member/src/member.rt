@@ -18,8 +18,7 @@ ghost use Rattle.member.specs.Sound.{IsSound, IsFiled};
 ghost use Rattle.member.specs.Readers.{member_disk, member_header, member_gate, member_saved, member_outbox, member_is_stopped, MemberStandsFor};
 
 use crate::fault::MemberFault;
-use crate::save::{save, save_last};
-use crate::sealed::{Sealed, seal};
+use crate::sealed::{Sealed, save, save_last, seal};
 use disk::Disk;
 use journal::{Journal, JournalFault, Release};
 use questions::{Answer, Core, CoreFault, Heard};

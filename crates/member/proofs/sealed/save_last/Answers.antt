@@ -5,7 +5,7 @@ use Rattle.member.specs.Words.{Sealed, sealed_from}
 use Rattle.journal.specs.Readers.{journal_disk, journal_header, IsAtRest}
 use Rattle.member.proofs.Sealing.{goes_on}
 use Rattle.member.proofs.Standing.{still}
-use Rattle.member.proofs.save.save_last.Goals as goal
+use Rattle.member.proofs.sealed.save_last.Goals as goal
 
 pub returns-then-is_empty : goal.returns-then-is_empty
 returns-then-is_empty g c =
