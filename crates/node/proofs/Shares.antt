@@ -12,7 +12,7 @@ use Rattle.node.specs.Groups.{heard_from}
 use Rattle.node.specs.Accounts.{Group}
 use Rattle.node.specs.Lines.{HasCome, WasRefused, is_of, are_of}
 use Rattle.node.specs.Parts.{IsPartOf, AreParts}
-use Rattle.node.specs.declared.group.Part.{Part}
+use Rattle.node.specs.declared.line.Part.{Part}
 
 -- a part of what is then the front of something longer
 longer_whole : {X : Type 0} (part whole more : List X) → IsPartOf part whole → IsPartOf part (whole ++ more)

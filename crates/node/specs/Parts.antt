@@ -3,7 +3,7 @@ use Rattle.std.specs.Prelude.{ℕ, ◌≡◌, List, ◌++◌}
 use Rattle.std.specs.List.{All}
 use Rattle.terms_prelude.specs.Terms.{Statement}
 use Rattle.rounds.specs.declared.tosses.Toss.{Toss}
-use Rattle.node.specs.declared.group.Part.{Part}
+use Rattle.node.specs.declared.line.Part.{Part}
 
 -- it stands in the whole, in one piece, with something before it and behind it, perhaps nothing
 pub record IsPartOf {X : Type 0} (part whole : List X) : Type 0 where

@@ -4,14 +4,12 @@
 #![tactic(auto)]
 
 mod account;
-mod bell;
 mod block;
 mod board;
 mod book;
 mod compact;
 mod ended;
 mod entry;
-mod group;
 mod history;
 mod hub;
 pub mod laws;
@@ -19,14 +17,12 @@ mod line;
 mod link_table;
 mod marks;
 mod order;
-mod pace;
 mod pause;
 mod publisher;
 mod rack;
 mod seat;
 mod settle;
 mod showing;
-mod shown;
 mod state;
 mod tally;
 mod transcript;

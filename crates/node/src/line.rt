@@ -1,22 +1,29 @@
 //! The line in front of the book: what several links hand in while a batch is on its way to the
-//! disk is heard as one group. Begin at `Line`, and at `hear`.
-ghost use Rattle.std.specs.Prelude.{◌≡◌, IfSome, IsTrue, List, Result};
-ghost use Rattle.member.specs.Groups.{hearings};
+//! disk is heard as one group, one statement after the other, and saved as one batch. Begin at
+//! `Line`, at `hear`, whose `HeardGroup` ties an outcome to its group, and at `Group`.
+ghost use Rattle.std.specs.Prelude.{◌≡◌, ◌<◌, ◌≤◌, length, [], IfErr, IfNone, IfOk, IfSome, IsTrue, List, OnErr, Result};
+ghost use Rattle.member.specs.Groups.{hearings, replies_of};
 ghost use Rattle.member.specs.declared.fault.MemberFault.{MemberFault};
-ghost use Rattle.node.specs.Groups.{heard_from};
+ghost use Rattle.node.specs.Groups.{heard_from, lengthened_all};
 ghost use Rattle.node.specs.Lines.{ComesOf, HasCome, OutcomeView, are_of, is_of};
 
 use crate::account::Witness;
-use crate::book::{Book, Naming};
-use crate::group::{GROUP, Group, Part};
+use crate::book::{Book, Naming, add_if_taken};
+use crate::entry::Entry;
+use crate::history::History;
+use crate::marks::Firsts;
 use crate::settle::is_same;
 use disk::Disk;
 use member::MemberFault;
+use questions::Answer;
 use rounds::Toss;
 use std::alloc::Global;
 use std::marker::{Model, PhantomData};
 use std::mem::replace;
 use terms::{Memory, Statement};
+
+/// The most statements that a member hears as one group.
+const GROUP: usize = 256;
 
 /// The most groups in a row for which the bell isn't rung.
 const QUIET: u32 = 7;
@@ -218,7 +225,7 @@ enum Slot<D, J: Naming> {
     Free,
     /// This waits for the book.
     Waits(Vec<(u8, Statement, Toss)>),
-    /// The pieces that waited are on their way through the book.
+    /// The statements that waited are on their way through the book.
     Away,
     /// The book has answered.
     Answered(Answered<D, J>),
@@ -268,7 +275,7 @@ impl<D, J: Naming> Slot<D, J> {
     }
 }
 
-/// An answered piece: what a link handed in, and what came of it.
+/// The statements that a link handed in, and what came of them.
 #[derive(Drop)]
 struct Answered<D, J: Naming> {
     events: Vec<(u8, Statement, Toss)>,
@@ -348,5 +355,124 @@ pub(crate) fn hear<D: Disk, J: Naming>(book: &mut Book<D, J>, group: Group) -> H
             outcome: Err(fault),
             of: PhantomData,
         },
+    }
+}
+
+/// The statements of one link in a group, and the place in the line where their answer belongs.
+#[derive(Drop)]
+struct Part {
+    at: usize,
+    events: Vec<(u8, Statement, Toss)>,
+}
+
+/// A group: what several links handed in, one after the other: at most 256 statements, each with
+/// its sender and its toss. Contracts see all of them, and that each part is one.
+#[derive(Drop)]
+pub(crate) struct Group {
+    events: Vec<(u8, Statement, Toss)>,
+    parts: Vec<Part>,
+}
+
+impl Model for Group {
+    ghost use Rattle.std.specs.Prelude.{ℕ, ◌≤◌, List, length};
+    ghost use Rattle.terms_prelude.specs.Terms.{Statement};
+    ghost use Rattle.rounds.specs.declared.tosses.Toss.{Toss};
+    ghost use Rattle.node.specs.Parts.{AreParts};
+
+    ghost Value = { List (ℕ × Statement × Toss) };
+
+    ghost view = { λ group. group.events.items };
+
+    ghost invariant = { λ group. (length group.events.items ≤ 256)
+        × AreParts group.parts.items group.events.items };
+}
+
+impl Group {
+    /// A group of nobody. It takes no memory.
+    pub(crate) fn new(alloc: Global) -> Group
+        ensures { result ≡ [] }
+    {
+        Group {
+            events: Vec::new(alloc),
+            parts: Vec::new(alloc),
+        }
+    }
+
+    /// Adds what a link handed in behind what it has. Where there is no room or no memory it comes
+    /// back, and the group stays.
+    pub(crate) fn add(
+        &mut self,
+        at: usize,
+        events: Vec<(u8, Statement, Toss)>,
+    ) -> Result<(), Vec<(u8, Statement, Toss)>>
+        ensures back { IfErr result (λ back. back ≡ events) }
+        ensures same { IfErr result (λ _. self.new ≡ self.old) }
+    {
+        if events.len() > GROUP - self.events.len() || self.parts.reserve(1).is_err() {
+            return Err(events);
+        }
+        if self.events.extend_from_slice(&events).is_err() {
+            return Err(events);
+        }
+        self.parts.push_reserved(Part { at, events });
+        Ok(())
+    }
+}
+
+/// The statements as they are heard from the peer, once there is room for a first more for each;
+/// none where there is no memory. The firsts stay.
+pub(crate) fn group_with_room(
+    alloc: Global,
+    peer: u8,
+    events: &[(Statement, Toss)],
+    firsts: &mut Firsts,
+) -> Option<Vec<(u8, Statement, Toss)>>
+    ensures firsts { firsts.new.said ≡ firsts.old.said }
+    ensures group { IfSome result (λ group. hearings group.items ≡ heard_from peer events.now) }
+    ensures seats { IfSome result (λ _. length events.now ≤ firsts.new.room) }
+    ensures some { IfNone result (0 < length events.now) }
+{
+    if !firsts.make_room(events.len()) {
+        return None;
+    }
+    heard_from(alloc, peer, events).ok()
+}
+
+/// The statements as they are heard from the peer.
+pub(crate) fn heard_from(
+    alloc: Global,
+    peer: u8,
+    events: &[(Statement, Toss)],
+) -> Result<Vec<(u8, Statement, Toss)>, Memory>
+    ensures ok { IfOk result (λ group. hearings group.items ≡ heard_from peer events.now) }
+    ensures some { OnErr result (0 < length events.now) }
+{
+    let mut group = Vec::new(alloc);
+    for (statement, toss) in events {
+        group.push((peer, *statement, *toss))?;
+    }
+    Ok(group)
+}
+
+/// Adds an entry for each statement that its answer takes, in order.
+pub(crate) fn add_all_taken(
+    history: &mut History,
+    group: &[(u8, Statement, Toss)],
+    answers: &[Answer],
+)
+    requires { length group.now ≤ history.old.room }
+    ensures { history.new.entries
+        ≡ lengthened_all history.old.entries (hearings group.now) (replies_of answers.now) }
+{
+    for ((from, statement, toss), answer) in group.iter().zip(answers) {
+        add_if_taken(
+            history,
+            Entry::Heard {
+                from: *from,
+                statement: *statement,
+                toss: *toss,
+            },
+            answer,
+        );
     }
 }

@@ -1,4 +1,5 @@
-//! The part of its book that a hub shows to whoever doesn't take the book.
+//! The part of its book that a hub shows to whoever doesn't take the book, and the bell on which
+//! writers wait for more of it. Begin at `Published`, and at `Bell`.
 ghost use Rattle.std.specs.Prelude.{◌≡◌, ◌+◌, ◌<◌, ◌≤◌, ◌^◌, ◌++◌, length, take, drop, true, IfNone, IfOk, IfSome, IsTrue, IsFalse, vec_len};
 ghost use Rattle.member.specs.Readers.{member_saved};
 ghost use Rattle.member.specs.Sealed.{sealed_from};
@@ -10,16 +11,18 @@ use crate::account::Witness;
 use crate::board::Pass;
 use crate::book::{Book, Naming};
 use crate::order::Decision;
-use crate::shown::Shown;
 use disk::Disk;
 use member::Sealed;
 use std::alloc::Global;
 use std::marker::{Model, PhantomData};
+use std::sync::atomic::{AtomicU64, Ordering};
+use std::sync::{Condvar, MutexGuard, Wait};
 use terms::Memory;
 
 /// The statements of a book's outbox and the decisions that are shown, and the member's status with
 /// the book's account when that was shown. All are of one book, since they change under one lock.
-/// Contracts see the statements, the decisions, the status and the account's groups.
+/// Contracts see the statements, the decisions, the status and the account's groups. A publisher
+/// puts decisions on the board, which is another place.
 #[derive(Drop)]
 pub(crate) struct Published<D: Disk, J: Naming> {
     shown: Shown,
@@ -97,7 +100,7 @@ impl<D: Disk, J: Naming> Published<D, J> {
         ensures status { self.new.status ≡ self.old.status }
         ensures log { self.new.log ≡ self.old.log }
     {
-        let more = behind(decisions_of(book), self.decisions.len());
+        let more = decisions_behind(decisions_of(book), self.decisions.len());
         if self.decisions.extend_from_slice(more).is_err() {
             return;
         }
@@ -187,11 +190,151 @@ fn decisions_of<D: Disk, J: Naming>(book: &Book<D, J>) -> &[Decision]
 }
 
 /// The decisions behind the first so many, if there are more.
-fn behind(decisions: &[Decision], count: usize) -> &[Decision]
+fn decisions_behind(decisions: &[Decision], count: usize) -> &[Decision]
     ensures { result.now ≡ drop count decisions.now }
 {
     if decisions.len() <= count {
         return &[];
     }
     &decisions[count..]
+}
+
+/// The statements of an outbox, as far as they are shown. Writers look here, behind a lock that
+/// nobody holds for long, and so wait for no disk. It takes 24 bytes a statement. Contracts see the
+/// statements.
+#[derive(Drop)]
+pub(crate) struct Shown {
+    items: Vec<Sealed>,
+}
+
+impl Model for Shown {
+    ghost use Rattle.std.specs.Prelude.{◌≡◌, List, true};
+    ghost use Rattle.member.specs.declared.sealed.Sealed.{Sealed};
+    ghost use Rattle.node.specs.Books.{is_numbered};
+
+    ghost Value = { List Sealed };
+
+    ghost view = { λ shown. shown.items.items };
+
+    ghost invariant = { λ shown. is_numbered 0 shown.items.items ≡ true };
+}
+
+impl Shown {
+    /// Shows an outbox.
+    pub(crate) fn of(alloc: Global, outbox: &[Sealed]) -> Result<Shown, Memory>
+        requires numbered { is_numbered 0 outbox.now ≡ true }
+        ensures { IfOk result (λ shown. shown ≡ outbox.now) }
+    {
+        Ok(Shown {
+            items: Vec::from_slice(alloc, outbox)?,
+        })
+    }
+
+    /// Shows what the outbox has behind what is shown. Where there is no memory nothing more is
+    /// shown.
+    pub(crate) fn show(&mut self, outbox: &[Sealed]) -> bool
+        requires numbered { is_numbered 0 outbox.now ≡ true }
+        ensures shown { IsTrue result → self.new ≡ self.old ++ drop (length self.old) outbox.now }
+        ensures same { IsFalse result → self.new ≡ self.old }
+    {
+        if self
+            .items
+            .extend_from_slice(behind(outbox, self.items.len()))
+            .is_err()
+        {
+            return false;
+        }
+        true
+    }
+
+    /// Returns how many statements are shown.
+    pub(crate) fn len(&self) -> usize
+        ensures { result ≡ length self.now }
+    {
+        self.items.len()
+    }
+
+    /// Returns `true` if the statement with that number is shown.
+    pub(crate) fn has(&self, number: u64) -> bool
+        ensures { IsTrue result → number < length self.now }
+    {
+        number < self.items.len() as u64
+    }
+
+    /// The statements from that number on, at most so many: none where it is past what is shown.
+    pub(crate) fn part(&self, alloc: Global, from: u64, max: usize) -> Result<Vec<Sealed>, Memory>
+        ensures items { IfOk result (λ v. v.items ≡ take max (drop from self.now)) }
+        ensures numbered { IfOk result (λ v. is_numbered from v.items ≡ true) }
+        ensures fits { IfOk result (λ v. 0 < vec_len v → from + vec_len v < 2 ^ 64) }
+    {
+        part(alloc, &self.items, from, max)
+    }
+}
+
+/// Returns what an outbox has behind the first so many, if it has more.
+fn behind(outbox: &[Sealed], count: usize) -> &[Sealed]
+    ensures { result.now ≡ drop count outbox.now }
+{
+    if outbox.len() <= count {
+        return &[];
+    }
+    &outbox[count..]
+}
+
+/// A part of an outbox.
+pub(crate) fn part(
+    alloc: Global,
+    outbox: &[Sealed],
+    from: u64,
+    max: usize,
+) -> Result<Vec<Sealed>, Memory>
+    ensures items { IfOk result (λ v. v.items ≡ take max (drop from outbox.now)) }
+    ensures fits { IfOk result (λ v. 0 < vec_len v → from + vec_len v < 2 ^ 64) }
+{
+    if from >= outbox.len() as u64 {
+        return Ok(Vec::new(alloc));
+    }
+    let rest = &outbox[from as usize..];
+    let end = max.min(rest.len());
+    Ok(Vec::from_slice(alloc, &rest[..end])?)
+}
+
+/// The bell for writers that wait until more of the outbox is shown. It rings once for what is new,
+/// however many show it.
+#[derive(Drop)]
+pub(crate) struct Bell {
+    condition: Condvar,
+    /// The number of statements for which it has rung.
+    rung: AtomicU64,
+}
+
+impl Bell {
+    /// A bell that has rung for so many statements.
+    pub(crate) fn new(rung: u64) -> Bell {
+        Bell {
+            condition: Condvar::new(),
+            rung: AtomicU64::new(rung),
+        }
+    }
+
+    /// Rings, if more statements are shown than it has rung for.
+    pub(crate) fn ring_for(&self, shown: u64) {
+        if self.rung.fetch_max(shown, Ordering::SeqCst) < shown {
+            self.condition.notify_all();
+        }
+    }
+
+    /// Rings for all that wait.
+    pub(crate) fn ring(&self) {
+        self.condition.notify_all();
+    }
+
+    /// Waits until it rings. What is locked is given back meanwhile.
+    pub(crate) fn wait<'a, R: Wait, T>(
+        &self,
+        rt: &R,
+        locked: MutexGuard<'a, T>,
+    ) -> MutexGuard<'a, T> {
+        self.condition.wait(rt, locked)
+    }
 }

@@ -4,7 +4,7 @@ use Rattle.terms_prelude.specs.Terms.{Statement}
 use Rattle.rounds.specs.declared.tosses.Toss.{Toss}
 use Rattle.member.specs.Groups.{hearings}
 use Rattle.node.specs.Lines.{HasCome}
-use Rattle.node.specs.declared.group.Part.{Part}
+use Rattle.node.specs.declared.line.Part.{Part}
 use Rattle.node.proofs.Shares.{first_of_all, others_of_all, came_of_all}
 use Rattle.node.proofs.line.Line.answer.Goals as goal
 

@@ -1,7 +1,7 @@
 use Rattle.std.specs.List.{All}
 use Rattle.member.specs.Groups.{hearings}
 use Rattle.node.specs.Lines.{HasCome}
-use Rattle.node.specs.declared.group.Part.{Part}
+use Rattle.node.specs.declared.line.Part.{Part}
 use Rattle.node.proofs.line.Line.answer.Given as goal
 
 abbrev pub invariant-loop-part : goal.invariant-loop-part

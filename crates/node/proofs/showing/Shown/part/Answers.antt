@@ -2,7 +2,7 @@ use Rattle.std.proofs.Common.{◌≡◌, subst, List, take, drop, true, sym}
 use Rattle.member.specs.declared.sealed.Sealed.{Sealed}
 use Rattle.node.specs.Books.{is_numbered}
 use Rattle.node.proofs.Numbers.{if_ok_then, numbered_piece}
-use Rattle.node.proofs.shown.Shown.part.Goals as goal
+use Rattle.node.proofs.showing.Shown.part.Goals as goal
 
 pub returns-clause-numbered : goal.returns-clause-numbered
 returns-clause-numbered c =

@@ -1,7 +1,7 @@
 use Rattle.std.proofs.Common.{◌≡◌, ◌+◌, ◌≤◌, length, drop}
 use Rattle.member.specs.Groups.{hearings, replies_of}
 use Rattle.node.specs.Words.{lengthened_all}
-use Rattle.node.proofs.group.add_all_taken.Given as goal
+use Rattle.node.proofs.line.add_all_taken.Given as goal
 
 abbrev pub invariant-loop-from : goal.invariant-loop-from
 invariant-loop-from l = record {

@@ -1,7 +1,7 @@
 use Rattle.std.proofs.Common.{rules, ◌≡◌, length, min, sym, ◌∙◌}
 use Rattle.std.proofs.lemmas.Slice.Zip.{zip_end}
 use Rattle.node.proofs.Grouping.{none_left}
-use Rattle.node.proofs.group.add_all_taken.Goals as goal
+use Rattle.node.proofs.line.add_all_taken.Goals as goal
 
 pub returns : goal.returns
 returns c =

@@ -2,7 +2,7 @@ use Rattle.std.proofs.Common.{rules, ◌≡◌, ◌++◌, List, drop, length, tr
 use Rattle.member.specs.declared.sealed.Sealed.{Sealed}
 use Rattle.node.specs.Books.{is_numbered}
 use Rattle.node.proofs.Numbers.{numbered_longer}
-use Rattle.node.proofs.shown.Shown.show.Goals as goal
+use Rattle.node.proofs.showing.Shown.show.Goals as goal
 
 pub invariant_of-self-2 : goal.invariant_of-self-2
 invariant_of-self-2 c =

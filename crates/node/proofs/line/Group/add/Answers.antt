@@ -2,9 +2,9 @@ use Rattle.std.proofs.Common.{rules, ◌≡◌, ◌++◌, ◌∷◌, [], ◌≤�
 use Rattle.terms_prelude.specs.Terms.{Statement}
 use Rattle.rounds.specs.declared.tosses.Toss.{Toss}
 use Rattle.node.specs.Parts.{AreParts}
-use Rattle.node.specs.declared.group.Part.{Part}
+use Rattle.node.specs.declared.line.Part.{Part}
 use Rattle.node.proofs.Shares.{one_part_more}
-use Rattle.node.proofs.group.Group.add.Goals as goal
+use Rattle.node.proofs.line.Group.add.Goals as goal
 
 pub invariant_of-self-2 : goal.invariant_of-self-2
 invariant_of-self-2 c =
