@@ -11,8 +11,8 @@ ghost use Rattle.links.specs.Handing.{in_order, all_in_place, HandsInSome, Hands
 ghost use Rattle.links.specs.Turns.{Waits, ReadsOn, ReadsOff};
 
 use crate::ends::LinkEnd;
-use crate::sending::write_message;
 use crate::stream::Stream;
+use crate::writer::write_message;
 use disk::Disk;
 use member::MemberFault;
 use node::{Hub, Naming, Seat};

@@ -1,24 +1,25 @@
-//! The writer of a link: begin at `write_link`.
-ghost use Rattle.std.specs.Prelude.{◌≡◌, ◌+◌, ◌<◌, ◌≤◌, ◌^◌, true, length, vec_len, IfOk, IfErr};
+//! The writer of a link: begin at `write_link`. Behind it stands how statements, messages and bytes
+//! are written to any stream.
+ghost use Rattle.std.specs.Prelude.{◌≡◌, ◌+◌, ◌<◌, ◌≤◌, ◌^◌, true, length, vec_len, IfOk, IfErr, OnOk, OnErr};
 ghost use Rattle.wire.specs.Texts.{frame_bytes};
 ghost use Rattle.wire.specs.declared.message.Message.TheVariants as message;
 ghost use Rattle.node.specs.Books.{is_numbered};
-ghost use Rattle.links.specs.Told.{has_read};
+ghost use Rattle.links.specs.Told.{has_read, has_written, has_sent, BreaksOff};
 ghost use Rattle.links.specs.Pulls.{IsEndOrMemory};
+ghost use Rattle.links.specs.Sending.{each_framed, statements_of, frames_of, FailsToWrite, FailsToSend};
 ghost use Rattle.links.specs.Writing.{WritesGroups, WritesOn, Unwelcomed, WritesLink, hello_to};
 
 use crate::ends::LinkEnd;
-use crate::first::read_first;
+use crate::greeting::read_first;
 use crate::reader::Gate;
-use crate::sending::{send, write_message};
-use crate::stream::Stream;
+use crate::stream::{Stream, StreamFault};
 use disk::Disk;
 use member::Sealed;
 use node::{Hub, Naming};
 use std::alloc::Global;
 use std::sync::Wait;
-use terms::{Header, Size};
-use wire::{MOST_STATEMENTS, Message, Version};
+use terms::{Header, Memory, Size, Statement};
+use wire::{MOST_STATEMENTS, Many, Message, Version, encode};
 
 /// The most statements that are written at a time in a session of version 1.
 const PULL: usize = 64;
@@ -190,6 +191,16 @@ fn read_welcome<S: Stream>(alloc: Global, stream: &mut S, size: Size) -> Result<
     }
 }
 
+/// The most statements that are written at a time.
+fn most(version: Version) -> usize
+    ensures { result ≤ 99 }
+{
+    match version {
+        Version::One => PULL,
+        Version::Two => MOST_STATEMENTS,
+    }
+}
+
 /// Writes an Idle frame.
 fn write_idle<S: Stream>(
     alloc: Global,
@@ -231,12 +242,147 @@ fn write_items<S: Stream>(
     }
 }
 
-/// The most statements that are written at a time.
-fn most(version: Version) -> usize
-    ensures { result ≤ 99 }
+/// Writes the frames of the statements, in order: in a session of version 1 each has its own, in
+/// one of version 2 they are one frame, if there are any. The caller lends at most 99. The stream
+/// notes these values, with the numbers that they have.
+///
+/// # Errors
+///
+/// `Lost` where the stream failed: a beginning of the frames was written. `Memory`: nothing was.
+pub fn send<S: Stream>(
+    alloc: Global,
+    stream: &mut S,
+    version: Version,
+    items: &[Sealed],
+) -> Result<(), LinkEnd>
+    requires { length items.now ≤ 99 }
+    ensures ok { OnOk result
+        (S.told stream.new ≡ has_written (has_sent (S.told stream.old) items.now)
+        (frames_of version items.now)) }
+    ensures err { IfErr result
+        (λ why. FailsToSend version (S.told stream.old) (S.told stream.new) items.now why) }
+{
+    match frames(alloc, version, items) {
+        Ok(bytes) => {
+            stream.note_sent(items);
+            match write_all(stream, &bytes) {
+                Ok(()) => Ok(()),
+                Err(_) => Err(LinkEnd::Lost),
+            }
+        }
+        Err(_) => Err(LinkEnd::Memory),
+    }
+}
+
+/// The frames of the statements.
+fn frames(alloc: Global, version: Version, items: &[Sealed]) -> Result<Vec<u8>, Memory>
+    requires { length items.now ≤ 99 }
+    ensures { IfOk result (λ bytes. bytes.items ≡ frames_of version items.now) }
 {
     match version {
-        Version::One => PULL,
-        Version::Two => MOST_STATEMENTS,
+        Version::One => each_frame(alloc, items),
+        Version::Two => {
+            if items.len() < 2 {
+                return each_frame(alloc, items);
+            }
+            joint_frame(alloc, items)
+        }
     }
+}
+
+/// The frames of the statements, one for each.
+fn each_frame(alloc: Global, items: &[Sealed]) -> Result<Vec<u8>, Memory>
+    ensures { IfOk result (λ bytes. bytes.items ≡ each_framed items.now) }
+{
+    let mut bytes = Vec::new(alloc);
+    for item in items {
+        encode(&Message::Statement(item.statement()), &mut bytes)?;
+    }
+    Ok(bytes)
+}
+
+/// The one frame of several statements, at most 99.
+fn joint_frame(alloc: Global, items: &[Sealed]) -> Result<Vec<u8>, Memory>
+    requires { (2 ≤ length items.now) × (length items.now ≤ 99) }
+    ensures { IfOk result
+        (λ bytes. bytes.items ≡ frame_bytes (message.Statements (statements_of items.now))) }
+{
+    match statements(alloc, items) {
+        Ok(statements) => match Many::new(statements) {
+            Ok(many) => frame(alloc, &Message::Statements(many)),
+            Err(_) => unreachable!(),
+        },
+        Err(refused) => Err(refused),
+    }
+}
+
+/// The statements.
+fn statements(alloc: Global, items: &[Sealed]) -> Result<Vec<Statement>, Memory>
+    ensures { IfOk result (λ statements. statements.items ≡ statements_of items.now) }
+{
+    let mut statements = Vec::new(alloc);
+    for item in items {
+        statements.push(item.statement())?;
+    }
+    Ok(statements)
+}
+
+/// Writes the frame of a message.
+///
+/// # Errors
+///
+/// `Lost` where the stream failed: a beginning of the frame was written. `Memory`: nothing was.
+pub(crate) fn write_message<S: Stream>(
+    alloc: Global,
+    stream: &mut S,
+    message: &Message,
+) -> Result<(), LinkEnd>
+    ensures ok { OnOk result
+        (S.told stream.new ≡ has_written (S.told stream.old) (frame_bytes message.now)) }
+    ensures err { IfErr result
+        (λ why. FailsToWrite (S.told stream.old) (S.told stream.new)
+        (frame_bytes message.now) why) }
+{
+    match frame(alloc, message) {
+        Ok(bytes) => match write_all(stream, &bytes) {
+            Ok(()) => Ok(()),
+            Err(_) => Err(LinkEnd::Lost),
+        },
+        Err(_) => Err(LinkEnd::Memory),
+    }
+}
+
+/// The frame of a message.
+fn frame(alloc: Global, message: &Message) -> Result<Vec<u8>, Memory>
+    ensures { IfOk result (λ bytes. bytes.items ≡ frame_bytes message.now) }
+{
+    let mut bytes = Vec::new(alloc);
+    match encode(message, &mut bytes) {
+        Ok(()) => Ok(bytes),
+        Err(refused) => Err(refused),
+    }
+}
+
+/// Writes all of the bytes, in as many calls as it takes.
+///
+/// # Errors
+///
+/// `StreamFault` at the first call that failed or took nothing: a beginning of the bytes was
+/// written.
+pub fn write_all<S: Stream>(stream: &mut S, bytes: &[u8]) -> Result<(), StreamFault>
+    ensures ok { OnOk result (S.told stream.new ≡ has_written (S.told stream.old) bytes.now) }
+    ensures err { OnErr result (BreaksOff (S.told stream.old) (S.told stream.new) bytes.now) }
+{
+    let mut rest = bytes;
+    while !rest.is_empty() {
+        let count = match stream.write(rest) {
+            Ok(count) => count,
+            Err(fault) => return Err(fault),
+        };
+        if count == 0 {
+            return Err(StreamFault);
+        }
+        rest = &rest[count..];
+    }
+    Ok(())
 }
