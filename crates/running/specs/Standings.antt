@@ -1,7 +1,7 @@
 -- How far a link that is written has come.
 use Rattle.std.specs.Prelude.{Bool, true, false}
-use Rattle.running.specs.declared.outgoing.Standing.{Standing}
-use Rattle.running.specs.declared.outgoing.Standing.TheVariants.{Greeting, Answered, Up}
+use Rattle.running.specs.declared.linking.Standing.{Standing}
+use Rattle.running.specs.declared.linking.Standing.TheVariants.{Greeting, Answered, Up}
 
 -- a read gave bytes
 abbrev pub after_read : Standing → Standing
