@@ -1,5 +1,5 @@
 -- A report is noted if its epoch runs.
-use Rattle.std.proofs.Common.{ℕ, ◌≡◌, ◌∙◌, ◌==◌, ◌||◌, cond, Bool, true, false, List, [], ◌∷◌, Option, None, Some, refl, sym, ap}
+use Rattle.std.proofs.Common.{ℕ, ◌≡◌, ◌∙◌, ◌==◌, ◌||◌, ◌&&◌, cond, if◌then◌else◌, max, subst, Bool, true, false, List, [], ◌∷◌, Option, None, Some, refl, sym, ap}
 use Rattle.std.specs.List.{find, list_any}
 use Rattle.std.specs.Option.{is_some, option_map}
 use Rattle.epochs.specs.declared.board.Report.{Report}
@@ -28,3 +28,11 @@ runs_if_told old epoch report running new told same noted tells =
     any_found (λ (one : Running). one.epoch == epoch) old.running.items
     ∙ ap (λ (l : List Running). is_some (running_in l epoch)) (sym same)
     ∙ told_of (running_in running epoch) (running_in new epoch) report told noted tells
+
+-- of an epoch that runs the newest is told as of one that was told
+pub newest_if_runs : (old told : State) (epoch : ℕ) (report : Report) (newest : ℕ) → runs old epoch ≡ true → told.newest ≡ old.newest
+    → newest ≡ (if report.is_begun then max told.newest epoch else told.newest)
+    → newest ≡ (if runs old epoch && report.is_begun then max old.newest epoch else old.newest)
+newest_if_runs old told epoch report newest run before is =
+    subst (λ (b : Bool). newest ≡ (if b && report.is_begun then max old.newest epoch else old.newest)) (sym run)
+    (subst (λ (n : ℕ). newest ≡ (if report.is_begun then max n epoch else n)) before is)

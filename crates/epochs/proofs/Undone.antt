@@ -1,9 +1,13 @@
 -- The list of the epochs that aren't done.
-use Rattle.std.proofs.Common.{ℕ, ◌≡◌, ◌≢◌, ◌<◌, ◌==◌, zero, suc, Bool, true, false, not, cond, List, [], ◌∷◌, ◌++◌, length, filter, refl, sym, ap, ◌∙◌, subst, arith}
+use Rattle.std.proofs.Common.{ℕ, ◌≡◌, ◌≢◌, ◌⊎◌, ◌<◌, ◌≤◌, ◌==◌, inl, inr, zero, suc, Bool, true, false, not, cond, List, [], ◌∷◌, ◌++◌, length, filter, IfSome, slice_get, refl, sym, ap, ◌∙◌, subst, arith}
 use Rattle.std.specs.List.{Contains}
+use Rattle.std.specs.Global.{Vec}
+use Rattle.epochs.specs.Opens.{IsKept, WasLeftOut}
+use Rattle.epochs.specs.declared.state.State.{State}
+use Rattle.epochs.specs.declared.verdicts.Verdicts.{Verdicts}
 use Rattle.std.proofs.lemmas.Bool.{eq-eqb}
 use Rattle.std.proofs.lemmas.Bool.Decides.{nat_tests}
-use Rattle.std.proofs.lemmas.List.Elements.{Contains-append_right, All-contains, filter_passes}
+use Rattle.std.proofs.lemmas.List.Elements.{Contains-append_cases, Contains-append_left, Contains-append_right, All-contains, filter_passes}
 
 -- what passes stays
 Contains-filter : {X : Type 0} (p : X → Bool) (xs : List X) (x : X) → p x ≡ true → Contains xs x → Contains (filter p xs) x
@@ -14,6 +18,17 @@ Contains-filter {X} p (y ∷ ys) x passes (suc k, within, is) = by (p y) (Contai
   by : (b : Bool) → Contains (filter p ys) x → Contains (cond b (y ∷ filter p ys) (filter p ys)) x
   by true has = Contains-append_right (y ∷ []) (filter p ys) x has
   by false has = has
+
+-- what passed was there
+Contains-from_filter : {X : Type 0} (p : X → Bool) (xs : List X) (x : X) → Contains (filter p xs) x → Contains xs x
+Contains-from_filter p [] x has = has
+Contains-from_filter {X} p (y ∷ ys) x has = by (p y) (Contains-from_filter p ys x) has where
+  by : (b : Bool) → (Contains (filter p ys) x → Contains ys x) → Contains (cond b (y ∷ filter p ys) (filter p ys)) x → Contains (y ∷ ys) x
+  by true within has = elim (Contains-append_cases (y ∷ []) (filter p ys) x has) [
+    | inl here ↦ Contains-append_left (y ∷ []) ys x here
+    | inr later ↦ Contains-append_right (y ∷ []) ys x (within later)
+  ]
+  by false within has = Contains-append_right (y ∷ []) ys x (within has)
 
 -- those but this epoch
 abbrev without : ℕ → List ℕ → List ℕ
@@ -32,3 +47,41 @@ it_goes epoch undone less is has =
     let passes = All-contains (λ one. p one ≡ true) (filter p undone) epoch (filter_passes p undone) (subst (λ (l : List ℕ). Contains l epoch) is has) in
     let fails = ap not (eq-eqb epoch epoch refl) in
     cc
+
+pub it_stood : (epoch : ℕ) (undone less : List ℕ) → less ≡ without epoch undone → (other : ℕ) → Contains less other → Contains undone other
+it_stood epoch undone less is other has =
+    Contains-from_filter (λ one. not (one == epoch)) undone other (subst (λ (l : List ℕ). Contains l other) is has)
+
+-- one that comes by the call of an epoch from first to end is of these
+pub of_these : {Old Now : Type 0} (Kept : ℕ → Type 0) (first epoch end one : ℕ) → first ≤ epoch → epoch < end
+    → (Now → Old ⊎ ((first ≤ one) × (one < end) × Kept one)) → Now ⊎ ((one ≡ epoch) × Kept epoch)
+    → Old ⊎ ((first ≤ one) × (one < end) × Kept one)
+of_these Kept first epoch end one from to before by = elim by [
+  | inl now ↦ before now
+  | inr new ↦ inr (omega (arith, from, new.0), omega (arith, to, new.0), subst Kept (sym new.0) new.1)
+]
+
+pub kept_alike : (old now : State) (epoch : ℕ) → now.verdicts ≡ old.verdicts → IsKept now epoch → IsKept old epoch
+kept_alike old now epoch same kept = subst (λ (v : Vec Verdicts). IfSome (slice_get v.items epoch) (λ verdicts. 0 < length verdicts.cells.items)) same kept
+
+-- what a state leaves out, one that has the same journals leaves out
+pub left_out_alike : (old now : State) (newest epoch : ℕ) → now.newest ≡ old.newest → now.verdicts ≡ old.verdicts
+    → WasLeftOut now newest epoch → WasLeftOut old newest epoch
+left_out_alike old now newest epoch same kept left = record {
+  behind = subst (λ (n : ℕ). n < epoch) same left.behind;
+  before = left.before;
+  made = subst (λ (v : Vec Verdicts). epoch < length v.items) kept left.made;
+  kept = kept_alike old now epoch kept left.kept;
+}
+
+-- what is undone after a report stood so, or is what it names, or was left out
+pub among : {Begun : Type 0} (old now : State) (epoch one : ℕ) → now.newest ≡ old.newest → now.verdicts ≡ old.verdicts → now.undone ≡ old.undone
+    → (Begun → Contains now.undone.items one ⊎ WasLeftOut now epoch one) → Begun ⊎ (one ≡ epoch)
+    → Contains old.undone.items one ⊎ ((one ≡ epoch) ⊎ WasLeftOut old epoch one)
+among old now epoch one newest kept same before by = elim by [
+  | inl begun ↦ elim (before begun) [
+    | inl stood ↦ inl (subst (λ (u : Vec ℕ). Contains u.items one) same stood)
+    | inr left ↦ inr (inr (left_out_alike old now epoch one newest kept left))
+  ]
+  | inr here ↦ inr (inl here)
+]

@@ -19,10 +19,21 @@ pub record IsKnown (state : State) (known : Known) : Type 0 where
   pub undone : known.undone.now ≡ state.undone.items
   pub asks : known.asks.now ≡ state.asks.list.items
 
+-- the epoch's journal wasn't put away
+abbrev pub IsKept : State → ℕ → Type 0
+IsKept state epoch = IfSome (slice_get state.verdicts.items epoch) (λ verdicts. 0 < length verdicts.cells.items)
+
+-- an epoch that would be left out if this one became the newest
+pub record WasLeftOut (state : State) (newest epoch : ℕ) : Type 0 where
+  pub behind : state.newest < epoch
+  pub before : epoch < newest
+  pub made : epoch < length state.verdicts.items
+  pub kept : IsKept state epoch
+
 -- by the chain's rule the epoch is open, and its journal wasn't put away
 pub record MayRun (chain : Chain) (state : State) (epoch : ℕ) : Type 0 where
   pub opens : (known : Known) → IsKnown state known → IsOpenEpoch (chain_size chain) known epoch
-  pub kept : IfSome (slice_get state.verdicts.items epoch) (λ verdicts. 0 < length verdicts.cells.items)
+  pub kept : IsKept state epoch
 
 -- whether the epoch runs
 abbrev pub runs : State → ℕ → Bool

@@ -175,7 +175,7 @@ impl Switchboard {
     pub fn hand_client<R: Wait>(&self, rt: &R, epoch: Option<u64>, arrival: Arrival) {
         let mut state = self.state.lock(rt);
         let epoch = epoch.unwrap_or(state.newest);
-        state.call(epoch);
+        let _uncalled = state.call(epoch).is_err();
         match state.place_of(&self.chain, epoch) {
             Place::Runs(doors) => doors.clients.put(rt, arrival),
             Place::IsDue => {
@@ -189,16 +189,17 @@ impl Switchboard {
     /// A bit was proposed in the epoch.
     pub fn note_proposal<R: Wait>(&self, rt: &R, epoch: u64) {
         let mut state = self.state.lock(rt);
-        state.advance(epoch);
-        state.call(epoch);
+        let _uncalled = state.advance(epoch).is_err();
+        let _uncalled = state.call(epoch).is_err();
         self.changed.notify_all();
     }
 
     /// Notes how an epoch stands that runs, once a second. Returns `true` if it rests: nothing of
-    /// it is open here, and nothing happens in it or all its questions are decided.
+    /// it is open here, and nothing happens in it or all its questions are decided. If memory is
+    /// refused, it doesn't rest before the next report.
     pub fn report<R: Wait>(&self, rt: &R, epoch: u64, report: Report) -> bool {
         let mut state = self.state.lock(rt);
-        let rests = state.report(epoch, report);
+        let rests = state.report(epoch, report).unwrap_or(false);
         self.changed.notify_all();
         rests
     }

@@ -1,13 +1,13 @@
 //! The state that the switchboard guards: begin at `State`.
 
-ghost use Rattle.std.specs.Prelude.{ℕ, ◌≡◌, ◌≢◌, ◌⊎◌, ◌<◌, ◌≤◌, ◌==◌, ◌&&◌, Bool, true, false, not, max, None, Some, Contains, IfSome, IsTrue, OnOk, filter, if◌then◌else◌, length, map, slice_get};
+ghost use Rattle.std.specs.Prelude.{ℕ, ◌≡◌, ◌≢◌, ◌⊎◌, ◌<◌, ◌≤◌, ◌==◌, ◌&&◌, Bool, true, false, not, max, None, Some, Contains, IfOk, IfSome, IsTrue, OnOk, filter, if◌then◌else◌, length, map, slice_get};
 ghost use Rattle.std.specs.Option.{option_map, option_map_or};
 ghost use Rattle.chain.specs.Opening.{IsOpenEpoch};
 ghost use Rattle.chain.specs.Slots.{chain_size};
 ghost use Rattle.chain.specs.declared.opening.Known.{Known};
 ghost use Rattle.epochs.specs.Asking.{HasFewAsks, asks_by, tells_next};
 ghost use Rattle.epochs.specs.Asks.{heard_since, not_asked, not_for, standing};
-ghost use Rattle.epochs.specs.Opens.{IsDue, IsKnown, MayRun, first_open, has_gone_quiet, least, runs, ticked};
+ghost use Rattle.epochs.specs.Opens.{IsDue, IsKept, IsKnown, MayRun, WasLeftOut, first_open, has_gone_quiet, least, runs, ticked};
 ghost use Rattle.epochs.specs.Reports.{noted, running_in};
 ghost use Rattle.epochs.specs.Verdicts.{verdict_at};
 ghost use Rattle.epochs.specs.declared.asks.TheConstants.{ASKS};
@@ -94,10 +94,10 @@ impl State {
     pub(crate) fn add(&mut self, verdicts: Verdicts) -> Result<(), Memory> {
         let epoch = self.made();
         if verdicts.is_undone() || verdicts.has_decisions() {
-            self.advance(epoch);
+            self.advance(epoch)?;
         }
         if verdicts.is_partial() {
-            self.call(epoch);
+            self.call(epoch)?;
         }
         self.verdicts.push(verdicts)?;
         Ok(())
@@ -215,7 +215,7 @@ impl State {
             let none = Verdicts::none(self.alloc, chain.size().questions())?;
             self.verdicts.push(none)?;
             if made < running.epoch {
-                self.call(made);
+                self.call(made)?;
             }
         }
         self.running.push(running)?;
@@ -267,7 +267,7 @@ impl State {
         if let Some(ended) = self.take_out(epoch) {
             for arrival in ended.doors.clients.close(rt) {
                 if !is_gone {
-                    self.call(epoch);
+                    let _uncalled = self.call(epoch).is_err();
                     self.park(epoch, false, arrival);
                 }
             }
@@ -302,13 +302,13 @@ impl State {
 
     /// Notes how an epoch stands that runs. One without progress for ten seconds is done if nothing
     /// of it is open here, and nobody asks for it any more. Returns `true` if it rests.
-    pub(crate) fn report(&mut self, epoch: u64, report: Report) -> bool
+    pub(crate) fn report(&mut self, epoch: u64, report: Report) -> Result<bool, Memory>
         ensures noted { running_in self.new.running.items epoch
             ≡ option_map (noted report) (running_in self.old.running.items epoch) }
         ensures others { (other : ℕ) → other ≢ epoch → running_in self.new.running.items other
             ≡ running_in self.old.running.items other }
-        ensures rests { result
-            ≡ option_map_or (λ one. one.rests) (running_in self.new.running.items epoch) false }
+        ensures rests { IfOk result (λ rests. rests
+            ≡ option_map_or (λ one. one.rests) (running_in self.new.running.items epoch) false) }
         ensures newest { self.new.newest ≡ (if runs self.old epoch && report.is_begun
             then max self.old.newest epoch else self.old.newest) }
         ensures asks { standing self.new.asks ≡ (if has_gone_quiet report self.new epoch
@@ -321,6 +321,13 @@ impl State {
             Contains self.old.undone.items epoch → Contains self.new.undone.items epoch }
         ensures done { report.is_undone ≡ false → has_gone_quiet report self.new epoch ≡ true →
             Contains self.new.undone.items epoch → ⊥ }
+        ensures wanted { OnOk result (runs self.old epoch ≡ true →
+            (report.is_undone ≡ true) ⊎ (has_gone_quiet report self.new epoch ≡ false) →
+            IsKept self.old epoch → Contains self.new.undone.items epoch) }
+        ensures left_out { OnOk result (runs self.old epoch ≡ true → report.is_begun ≡ true →
+            (one : ℕ) → WasLeftOut self.old epoch one → Contains self.new.undone.items one) }
+        ensures only { (one : ℕ) → Contains self.new.undone.items one →
+            Contains self.old.undone.items one ⊎ (one ≡ epoch) ⊎ WasLeftOut self.old epoch one }
         ensures rest { self.new ≡ record self.old {
           newest = self.new.newest;
           changes = self.new.changes;
@@ -332,10 +339,10 @@ impl State {
         self.tell_second(epoch);
         match note_report(&mut self.running, epoch, report) {
             Some((quiet, rests)) => {
-                self.settle(epoch, report, is_quiet(report, quiet));
-                rests
+                self.settle(epoch, report, is_quiet(report, quiet))?;
+                Ok(rests)
             }
-            None => false,
+            None => Ok(false),
         }
     }
 
@@ -360,7 +367,7 @@ impl State {
     }
 
     /// Notes what a report says of an epoch that runs.
-    fn settle(&mut self, epoch: u64, report: Report, is_quiet: bool)
+    fn settle(&mut self, epoch: u64, report: Report, is_quiet: bool) -> Result<(), Memory>
         ensures newest { self.new.newest ≡ (if report.is_begun
             then max self.old.newest epoch else self.old.newest) }
         ensures asks { standing self.new.asks ≡ (if is_quiet
@@ -373,6 +380,12 @@ impl State {
             Contains self.new.undone.items epoch }
         ensures done { report.is_undone ≡ false → is_quiet ≡ true →
             Contains self.new.undone.items epoch → ⊥ }
+        ensures wanted { OnOk result ((not report.is_undone && is_quiet) ≡ false →
+            IsKept self.old epoch → Contains self.new.undone.items epoch) }
+        ensures left_out { OnOk result (report.is_begun ≡ true →
+            (one : ℕ) → WasLeftOut self.old epoch one → Contains self.new.undone.items one) }
+        ensures only { (one : ℕ) → Contains self.new.undone.items one →
+            Contains self.old.undone.items one ⊎ (one ≡ epoch) ⊎ WasLeftOut self.old epoch one }
         ensures rest { self.new ≡ record self.old {
           newest = self.new.newest;
           changes = self.new.changes;
@@ -380,36 +393,46 @@ impl State {
           asks = self.new.asks;
         } }
     {
-        self.begin_if(report.is_begun, epoch);
-        self.asks.forget_epoch_if(is_quiet, epoch);
-        self.set_done(epoch, !report.is_undone && is_quiet);
         self.change();
+        self.asks.forget_epoch_if(is_quiet, epoch);
+        let begun = self.begin_if(report.is_begun, epoch);
+        self.set_done(epoch, !report.is_undone && is_quiet)?;
+        begun
     }
 
     /// The epoch has begun, if this is `true`.
-    fn begin_if(&mut self, is_begun: bool, epoch: u64)
+    fn begin_if(&mut self, is_begun: bool, epoch: u64) -> Result<(), Memory>
         ensures newest { self.new.newest ≡ (if is_begun
             then max self.old.newest epoch else self.old.newest) }
         ensures undone { (one : ℕ) → Contains self.old.undone.items one →
             Contains self.new.undone.items one }
+        ensures left_out { OnOk result (is_begun ≡ true →
+            (one : ℕ) → WasLeftOut self.old epoch one → Contains self.new.undone.items one) }
+        ensures only { (one : ℕ) → Contains self.new.undone.items one →
+            Contains self.old.undone.items one ⊎ WasLeftOut self.old epoch one }
         ensures rest { self.new ≡ record self.old {
           newest = self.new.newest;
           changes = self.new.changes;
           undone = self.new.undone;
         } }
     {
-        if is_begun {
-            self.advance(epoch);
+        if !is_begun {
+            return Ok(());
         }
+        self.advance(epoch)
     }
 
     /// The epoch is done, or somebody wants something of it.
-    fn set_done(&mut self, epoch: u64, is_done: bool)
+    fn set_done(&mut self, epoch: u64, is_done: bool) -> Result<(), Memory>
         ensures others { (other : ℕ) → other ≢ epoch → Contains self.old.undone.items other →
             Contains self.new.undone.items other }
         ensures open { is_done ≡ false → Contains self.old.undone.items epoch →
             Contains self.new.undone.items epoch }
         ensures done { is_done ≡ true → Contains self.new.undone.items epoch → ⊥ }
+        ensures wanted { OnOk result (is_done ≡ false →
+            IsKept self.old epoch → Contains self.new.undone.items epoch) }
+        ensures only { (one : ℕ) → Contains self.new.undone.items one →
+            Contains self.old.undone.items one ⊎ (one ≡ epoch) }
         ensures rest { self.new ≡ record self.old {
           changes = self.new.changes;
           undone = self.new.undone;
@@ -417,9 +440,9 @@ impl State {
     {
         if is_done {
             self.finish(epoch);
-        } else {
-            self.call(epoch);
+            return Ok(());
         }
+        self.call(epoch)
     }
 
     /// The epoch is done.
@@ -438,25 +461,48 @@ impl State {
     }
 
     /// The member has a proposal or a decision in this epoch. Those that it left out are to be made
-    /// up for.
-    pub(crate) fn advance(&mut self, epoch: u64)
+    /// up for. If memory is refused, this is the newest epoch all the same.
+    pub(crate) fn advance(&mut self, epoch: u64) -> Result<(), Memory>
         ensures newest { self.new.newest ≡ max self.old.newest epoch }
         ensures undone { (one : ℕ) → Contains self.old.undone.items one →
             Contains self.new.undone.items one }
+        ensures left_out { OnOk result ((one : ℕ) → WasLeftOut self.old epoch one →
+            Contains self.new.undone.items one) }
+        ensures only { (one : ℕ) → Contains self.new.undone.items one →
+            Contains self.old.undone.items one ⊎ WasLeftOut self.old epoch one }
         ensures rest { self.new ≡ record self.old {
           newest = self.new.newest;
           changes = self.new.changes;
           undone = self.new.undone;
         } }
     {
-        let made = self.made();
-        for missed in self.newest.saturating_add(1)..epoch.min(made) {
-            self.call(missed);
-        }
+        let first = self.newest.saturating_add(1);
+        let end = epoch.min(self.made());
         if epoch > self.newest {
             self.newest = epoch;
             self.change();
         }
+        self.call_all(first, end)
+    }
+
+    /// These epochs aren't done.
+    fn call_all(&mut self, first: u64, end: u64) -> Result<(), Memory>
+        ensures called { OnOk result ((one : ℕ) → first ≤ one → one < end → IsKept self.old one →
+            Contains self.new.undone.items one) }
+        ensures only { (one : ℕ) → Contains self.new.undone.items one →
+            Contains self.old.undone.items one
+            ⊎ ((first ≤ one) × (one < end) × IsKept self.old one) }
+        ensures undone { (one : ℕ) → Contains self.old.undone.items one →
+            Contains self.new.undone.items one }
+        ensures rest { self.new ≡ record self.old {
+          changes = self.new.changes;
+          undone = self.new.undone;
+        } }
+    {
+        for epoch in first..end {
+            self.call(epoch)?;
+        }
+        Ok(())
     }
 
     /// Returns how many epochs have a journal, or had one.
@@ -467,8 +513,12 @@ impl State {
     }
 
     /// The epoch isn't done: somebody wants something of it. One whose journal was put away stays
-    /// done.
-    pub(crate) fn call(&mut self, epoch: u64)
+    /// done. If memory is refused, nothing changes.
+    pub(crate) fn call(&mut self, epoch: u64) -> Result<(), Memory>
+        ensures called { OnOk result (IsKept self.old epoch →
+            Contains self.new.undone.items epoch) }
+        ensures only { (one : ℕ) → Contains self.new.undone.items one →
+            Contains self.old.undone.items one ⊎ ((one ≡ epoch) × IsKept self.old epoch) }
         ensures undone { (one : ℕ) → Contains self.old.undone.items one →
             Contains self.new.undone.items one }
         ensures rest { self.new ≡ record self.old {
@@ -476,10 +526,15 @@ impl State {
           undone = self.new.undone;
         } }
     {
-        if !self.is_gone(epoch) && !self.undone.contains(&epoch) {
-            let _unheard = self.undone.push(epoch).is_err();
-            self.change();
+        if self.is_gone(epoch) {
+            return Ok(());
         }
+        if self.undone.contains(&epoch) {
+            return Ok(());
+        }
+        self.undone.push(epoch)?;
+        self.change();
+        Ok(())
     }
 
     /// Something has changed.
@@ -562,9 +617,8 @@ impl State {
 
     /// Returns `true` if the epoch's journal was put away.
     fn is_gone(&self, epoch: u64) -> bool
-        ensures { result ≡ false →
-            IfSome (slice_get self.now.verdicts.items epoch)
-            (λ verdicts. 0 < length verdicts.cells.items) }
+        ensures kept { result ≡ false → IsKept self.now epoch }
+        ensures gone { result ≡ true → IsKept self.now epoch → ⊥ }
     {
         match self.verdicts.get(epoch as usize) {
             Some(verdicts) => verdicts.is_gone(),

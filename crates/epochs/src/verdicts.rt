@@ -1,6 +1,6 @@
 //! The decisions of an epoch: begin at `Verdicts`.
 
-ghost use Rattle.std.specs.Prelude.{ℕ, ◌≡◌, ◌⊎◌, ◌<◌, ◌==◌, Bool, false, None, Some, IfOk, cond, length, replicate};
+ghost use Rattle.std.specs.Prelude.{ℕ, ◌≡◌, ◌⊎◌, ◌<◌, ◌==◌, Bool, true, false, None, Some, IfOk, cond, length, replicate};
 ghost use Rattle.epochs.specs.Verdicts.{SaysOf, first_of, verdict_at};
 
 use std::alloc::Global;
@@ -67,7 +67,8 @@ impl Verdicts {
 
     /// Returns `true` if the epoch's journal was put away.
     pub(crate) fn is_gone(&self) -> bool
-        ensures { result ≡ false → 0 < length self.now.cells.items }
+        ensures kept { result ≡ false → 0 < length self.now.cells.items }
+        ensures gone { result ≡ true → length self.now.cells.items ≡ 0 }
     {
         self.cells.is_empty()
     }
