@@ -1340,14 +1340,19 @@ def a_stopped_member_takes_no_link(folder, port):
         return found + differs("its status", process.wait(8), 1)
 
 
+def stalling(folder, **words):
+    """The environment of a program of which a sync takes longer, as tests/stall.c says."""
+    library = f"{folder}/stall.so"
+    subprocess.run([os.environ.get("CC", "cc"), "-O2", "-shared", "-fPIC", "-o", library, f"{TOP}/tests/stall.c", "-ldl"], check=True)
+    return {**os.environ, "LD_PRELOAD": library, **words}
+
+
 @check
 def a_disk_that_stalls(folder, port):
     """While a sync takes six seconds, a member answers who asks for its state or for a decision, and no link goes down."""
-    library = f"{folder}/stall.so"
-    subprocess.run([os.environ.get("CC", "cc"), "-O2", "-shared", "-fPIC", "-o", library, f"{TOP}/tests/stall.c", "-ldl"], check=True)
     peers = [f"127.0.0.1:{port + it}" for it in range(4)]
     paths = [settings(folder, it, peers, f"127.0.0.1:{port + 4 + it}", 4, 1) for it in range(4)]
-    stalls = {**os.environ, "LD_PRELOAD": library, "STALL_AT": "8", "STALL_SECONDS": "6"}
+    stalls = stalling(folder, STALL_AT="8", STALL_SECONDS="6")
     with contextlib.ExitStack() as stack, concurrent.futures.ThreadPoolExecutor(4) as pool:
         for me, path in enumerate(paths):
             stack.enter_context(running(path, "--log", **({"env": stalls} if me == 0 else {})))
@@ -1698,6 +1703,28 @@ def an_open_slot_keeps_its_epoch_open(folder, port):
         found = differs("proposals to one of two", [told(port + 1, f"PROPOSE {slot} 1")[0] for slot in (0, 4, 8)], ["OK"] * 3)
         time.sleep(16)
         return found + differs("the epochs", told(port + 1, "EPOCHS")[0], "EPOCHS 0 2")
+
+
+@check
+def an_older_epoch_whose_disk_stalls(folder, port):
+    """While a sync of an older epoch's journal takes 14 seconds, its links don't go down, before the others have done with the epoch. It
+    isn't called closed after them, since the slot whose proposal was being saved is open."""
+    peers = [f"127.0.0.1:{port + it}" for it in range(4)]
+    paths = [of_a_chain(folder, it, peers, f"127.0.0.1:{port + 4 + it}", 4, 1) for it in range(4)]
+    # The first sync is the opening's.
+    stalls = stalling(folder, STALL_FILE="/0.epochs/0.journal", STALL_AT="2", STALL_SECONDS="14")
+    with contextlib.ExitStack() as stack, concurrent.futures.ThreadPoolExecutor(4) as pool:
+        for me, path in enumerate(paths):
+            stack.enter_context(running(path, "--log", **({"env": stalls} if me == 0 else {})))
+        found = differs("slot 4", list(pool.map(lambda it: told(port + 4 + it, "PROPOSE 4 1")[0], range(4))), ["OK"] * 4)
+        found += differs("its decision", told(port + 4, "AWAIT 4")[0], "DECIDED 1")
+        stalled = pool.submit(told, port + 4, "PROPOSE 0 1", timeout=30)
+        time.sleep(6)
+        found += differs("links that went down", [it for it in lines_of(paths[0]) if "link-down" in it], [])
+        said, took = stalled.result()
+        found += differs(f"slot 0, whose sync has stalled ({took:.1f} s)", (said, took > 12), ("OK", True))
+        time.sleep(4)
+        return found + differs("the epochs", told(port + 4, "EPOCHS")[0], "EPOCHS 0 1")
 
 
 @check
