@@ -59,8 +59,9 @@ class Desk:
                 time.sleep(0.05)
 
     def ask(self, *lines):
-        """The replies to the lines; all of them are said again if the connection is cut."""
-        for _ in range(50):
+        """The replies to the lines; all of them are said again if the connection is cut, for half a minute."""
+        end = time.monotonic() + 30.0
+        while time.monotonic() < end:
             try:
                 if self.stream is None:
                     self.connect()
