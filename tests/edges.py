@@ -1728,6 +1728,23 @@ def an_older_epoch_whose_disk_stalls(folder, port):
 
 
 @check
+def objects_of_a_chain_name_their_epoch(folder, port):
+    """Each object that a member of a chain logs begins with the number of its epoch, and then with its time."""
+    path = of_a_chain(folder, 0, [f"127.0.0.1:{port}"], f"127.0.0.1:{port + 1}", 1, 0)
+    with running(path, "--log-json"):
+        found = differs("slot 5", told(port + 1, "PROPOSE 5 1")[0], "OK") + differs("its decision", told(port + 1, "AWAIT 5")[0], "DECIDED 1")
+        wanted = {(0, "ready", None), (1, "ready", None), (1, "decided", 1), (2, "ready", None)}
+
+        def told_so_far():
+            with open(f"{path}.log", encoding="utf-8") as log:
+                return [json.loads(line) for line in log if line.endswith("\n")]
+
+        rows = lambda: {(row["epoch"], row["event"], row.get("question")) for row in told_so_far()}
+        found += [] if soon(lambda: wanted <= rows(), 10) else differs("the objects", sorted(rows(), key=str), sorted(wanted, key=str))
+        return found + differs("their first fields", {tuple(row)[:3] for row in told_so_far()}, {("epoch", "time", "event")})
+
+
+@check
 def epochs_that_were_left_out_run(folder, port):
     """The epochs before that of a slot which is proposed far ahead run too, two at a time, to make up for what others decided in
     them."""

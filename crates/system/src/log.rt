@@ -1,7 +1,7 @@
 //! The log of a member that runs, on the standard error.
 
 ghost use Rattle.std.specs.Fmt.{decimal};
-ghost use Rattle.std.specs.Prelude.{ℕ, ◌≡◌, ◌++◌, None, codes, true, false, IfOk, IfSome, option_map, string_bytes};
+ghost use Rattle.std.specs.Prelude.{ℕ, ◌≡◌, ◌++◌, None, codes, drop, true, false, IfOk, IfSome, option_map, string_bytes};
 ghost use Rattle.system.specs.Logs.{bare_line, device_text, timed_line};
 ghost use Rattle.system.specs.Moments.{IsMoment};
 ghost use Rattle.system.specs.declared.log.LogForm.TheVariants as form;
@@ -25,7 +25,8 @@ pub enum LogForm {
     Silent,
     /// Each event is a line that begins with its time.
     Lines,
-    /// Each event is an object of JSON in a line, which begins with its time.
+    /// Each event is an object of JSON in a line, which begins with its time, in a chain with its
+    /// epoch.
     Objects,
 }
 
@@ -196,7 +197,10 @@ fn object_with_epoch(
     object: Vec<u8>,
     epoch: Option<u64>,
 ) -> Result<Vec<u8>, AllocError>
-    ensures { epoch ≡ None → IfOk result (λ bytes. bytes ≡ object) }
+    ensures none { epoch ≡ None → IfOk result (λ bytes. bytes ≡ object) }
+    ensures some { IfSome epoch
+        (λ epoch. IfOk result (λ bytes. bytes.items
+        ≡ (codes "{\"epoch\":" ++ (decimal epoch ++ codes ",")) ++ drop 1 object.items)) }
 {
     let Some(epoch) = epoch else {
         return Ok(object);
@@ -204,9 +208,16 @@ fn object_with_epoch(
     let front = format!(in alloc; "{{\"epoch\":{epoch},")?;
     let mut bytes = Vec::new(alloc);
     bytes.extend_from_slice(front.as_bytes())?;
-    match object.as_slice() {
-        [_, rest @ ..] => bytes.extend_from_slice(rest)?,
-        [] => {}
-    }
+    bytes.extend_from_slice(behind_brace(object.as_slice()))?;
     Ok(bytes)
+}
+
+/// Returns what stands behind the first byte of an object.
+fn behind_brace(object: &[u8]) -> &[u8]
+    ensures { result.now ≡ drop 1 object.now }
+{
+    match object {
+        [_, rest @ ..] => rest,
+        [] => object,
+    }
 }

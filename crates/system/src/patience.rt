@@ -1,6 +1,6 @@
 //! The time that a client waits, as its words say it.
 
-ghost use Rattle.std.specs.Prelude.{◌≡◌, IfErr, IfOk, IsNone, None};
+ghost use Rattle.std.specs.Prelude.{◌≡◌, IfErr, IfOk, IfSome, IsNone, IsSomeAnd, None};
 ghost use Rattle.commands.specs.Patience.{IsPatience};
 ghost use Rattle.system.specs.declared.fault.Fault.TheVariants as ends;
 
@@ -17,6 +17,8 @@ const WORDS: &str = "--timeout wants seconds from 0 to 65535, as 5, 0.5 or 5s";
 pub fn patience_of(alloc: Global, text: Option<&str>) -> Result<Option<u32>, Failure>
     ensures fault { IfErr result (λ failure. failure.fault ≡ ends.Timeout) }
     ensures untold { IfOk result (λ found. IsNone text.entry → found ≡ None) }
+    ensures told { IfOk result (λ found. IfSome text.entry
+        (λ said. IsSomeAnd found (IsPatience said.now))) }
 {
     match text {
         None => Ok(None),
