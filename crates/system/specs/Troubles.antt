@@ -34,3 +34,7 @@ pub record IsTold (what : List ℕ) (At : Whereabouts → Type 0) (Says : List �
 -- what is told of it, if anything is, names this thing
 abbrev pub IsNamed : List ℕ → Failure → Type 0
 IsNamed what failure = IfSome failure.trouble (λ trouble. string_bytes trouble.thing ≡ what)
+
+-- it is told of the member `me` that a cluster of n hasn't
+abbrev pub IsOfMember : ℕ → ℕ → Trouble → Type 0
+IsOfMember n me = IsTold (codes "--me " ++ decimal me) (λ at. at ≡ place.Whole) (λ words. words ≡ codes "must be below n, which is " ++ decimal n)

@@ -5,6 +5,7 @@ ghost use Rattle.system.specs.declared.fault.Fault.{Fault};
 ghost use Rattle.system.specs.declared.fault.Fault.TheVariants as ends;
 ghost use Rattle.hearing.specs.declared.fault.HearFault.TheVariants as hear;
 ghost use Rattle.std.specs.Prelude.{ℕ, ◌≡◌, ◌↔◌, Err, IfErr, IfOk, IfSome, IsErrAnd, Ok, Some, true};
+ghost use Rattle.system.specs.Troubles.{IsOfMember};
 ghost use Rattle.system.specs.Words.{HasPart, IsNumberWords, mark_text, number_text};
 ghost use Rattle.terms_prelude.specs.Terms.{SizeFault, new_size, size_fault};
 
@@ -61,6 +62,8 @@ pub fn hear_end(alloc: Global, n: u8, me: u8, ended: Result<u8, Fault>) -> Resul
     ensures done { (status : ℕ) → ended ≡ Ok status → result ≡ Ok status }
     ensures fault { (fault : Fault) → ended ≡ Err fault →
         IsErrAnd result (λ failure. failure.fault ≡ fault) }
+    ensures member { ended ≡ Err (ends.Hear hear.Me) →
+        IfErr result (λ failure. IfSome failure.trouble (IsOfMember n me)) }
 {
     match ended {
         Ok(status) => Ok(status),
@@ -72,7 +75,8 @@ pub fn hear_end(alloc: Global, n: u8, me: u8, ended: Result<u8, Fault>) -> Resul
 /// The failure of `hear` as a member `me` of `n`: of a member that there is not, or a line that is
 /// none, with words.
 fn hear_failure(alloc: Global, n: u8, me: u8, fault: HearFault) -> Failure
-    ensures { result.fault ≡ ends.Hear fault }
+    ensures fault { result.fault ≡ ends.Hear fault }
+    ensures member { fault ≡ hear.Me → IfSome result.trouble (IsOfMember n me) }
 {
     match fault {
         HearFault::Me => member_failure(alloc, n, me),
@@ -84,7 +88,8 @@ fn hear_failure(alloc: Global, n: u8, me: u8, fault: HearFault) -> Failure
 
 /// The failure of a member that there is not.
 fn member_failure(alloc: Global, n: u8, me: u8) -> Failure
-    ensures { result.fault ≡ ends.Hear hear.Me }
+    ensures fault { result.fault ≡ ends.Hear hear.Me }
+    ensures told { IfSome result.trouble (IsOfMember n me) }
 {
     let fault = Fault::Hear(HearFault::Me);
     let Ok(thing) = format!(in alloc; "--me {me}") else {
