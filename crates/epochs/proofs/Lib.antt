@@ -4,3 +4,4 @@ pub mod Forgetting
 pub mod Noting
 pub mod Undone
 pub mod Reporting
+pub mod Parking

@@ -1,12 +1,13 @@
 -- The list of the epochs that aren't done.
-use Rattle.std.proofs.Common.{ℕ, ◌≡◌, ◌≢◌, ◌⊎◌, ◌<◌, ◌≤◌, ◌==◌, inl, inr, zero, suc, Bool, true, false, not, cond, List, [], ◌∷◌, ◌++◌, length, filter, IfSome, slice_get, refl, sym, ap, ◌∙◌, subst, arith}
+use Rattle.std.proofs.Common.{ℕ, ◌≡◌, ◌≢◌, ◌⊎◌, ◌+◌, ◌<◌, ◌≤◌, ◌==◌, inl, inr, zero, suc, Bool, true, false, not, cond, List, [], ◌∷◌, ◌++◌, Option, length, filter, IfSome, slice_get, refl, sym, ap, ◌∙◌, subst, arith}
 use Rattle.std.specs.List.{Contains}
 use Rattle.std.specs.Global.{Vec}
-use Rattle.epochs.specs.Opens.{IsKept, WasLeftOut}
+use Rattle.epochs.specs.Opens.{IsKept, IsMadeFor, WasLeftOut}
 use Rattle.epochs.specs.declared.state.State.{State}
 use Rattle.epochs.specs.declared.verdicts.Verdicts.{Verdicts}
 use Rattle.std.proofs.lemmas.Bool.{eq-eqb}
 use Rattle.std.proofs.lemmas.Bool.Decides.{nat_tests}
+use Rattle.std.proofs.lemmas.Option.{slice_get_past}
 use Rattle.std.proofs.lemmas.List.Elements.{Contains-append_cases, Contains-append_left, Contains-append_right, All-contains, filter_passes}
 
 -- what passes stays
@@ -63,6 +64,35 @@ of_these Kept first epoch end one from to before by = elim by [
 
 pub kept_alike : (old now : State) (epoch : ℕ) → now.verdicts ≡ old.verdicts → IsKept now epoch → IsKept old epoch
 kept_alike old now epoch same kept = subst (λ (v : Vec Verdicts). IfSome (slice_get v.items epoch) (λ verdicts. 0 < length verdicts.cells.items)) same kept
+
+-- the journal of an epoch that isn't made yet wasn't put away
+kept_past : (state : State) (epoch : ℕ) → length state.verdicts.items ≤ epoch → IsKept state epoch
+kept_past state epoch past =
+    subst (λ (one : Option Verdicts). IfSome one (λ verdicts. 0 < length verdicts.cells.items)) (sym (slice_get_past state.verdicts.items epoch past)) tt
+
+-- once one more is made, those before the epoch are called
+pub made_one_more : (old before called new : State) (epoch made : ℕ) → length before.verdicts.items ≡ made → called.verdicts ≡ before.verdicts
+    → length new.verdicts.items ≡ made + 1 → new.undone ≡ called.undone
+    → ((one : ℕ) → IsMadeFor old before epoch one → Contains before.undone.items one)
+    → ((one : ℕ) → Contains before.undone.items one → Contains called.undone.items one)
+    → (made < epoch → IsKept before made → Contains called.undone.items made)
+    → (one : ℕ) → IsMadeFor old new epoch one → Contains new.undone.items one
+made_one_more old before called new epoch made count same longer alike so stay by one is =
+    subst (λ (u : Vec ℕ). Contains u.items one) (sym alike) (elim (at_or_before one made (omega (arith, is.made, longer))) [
+      | inl here ↦ subst (λ n. Contains called.undone.items n) (sym here) (by (omega (arith, is.before, here)) (kept_past before made (omega (arith, count))))
+      | inr behind ↦ stay one (so one record { missed = is.missed; made = omega (arith, behind, count); before = is.before })
+    ])
+  where
+    at_or_before : (one made : ℕ) → one < made + 1 → (one ≡ made) ⊎ (one < made)
+    at_or_before one made within = grind (arith, within)
+
+-- what is called, and then what is made, changes nothing else
+pub made_rest : (old before called : State) (pushed : Vec Verdicts) → before ≡ record old { changes = before.changes; verdicts = before.verdicts; undone = before.undone }
+    → called ≡ record before { changes = called.changes; undone = called.undone }
+    → record called { verdicts = pushed } ≡ record old { changes = called.changes; verdicts = pushed; undone = called.undone }
+made_rest old before called pushed first second =
+    ap (λ (s : State). record s { verdicts = pushed }) second
+    ∙ ap (λ (s : State). record s { changes = called.changes; verdicts = pushed; undone = called.undone }) first
 
 -- what a state leaves out, one that has the same journals leaves out
 pub left_out_alike : (old now : State) (newest epoch : ℕ) → now.newest ≡ old.newest → now.verdicts ≡ old.verdicts

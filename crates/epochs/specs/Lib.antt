@@ -4,3 +4,4 @@ pub mod Opens
 pub mod Asking
 pub mod Asks
 pub mod Reports
+pub mod Parking

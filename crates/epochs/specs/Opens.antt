@@ -1,5 +1,5 @@
 -- Which epochs run, and which are closed.
-use Rattle.std.specs.Prelude.{ℕ, ◌≡◌, ◌<◌, ◌==◌, Bool, List, [], ◌∷◌, false, length, map, min, slice_get, IfSome, if◌then◌else◌}
+use Rattle.std.specs.Prelude.{ℕ, ◌≡◌, ◌<◌, ◌≤◌, ◌==◌, Bool, List, [], ◌∷◌, false, length, map, min, slice_get, IfSome, if◌then◌else◌}
 use Rattle.std.specs.List.{list_any}
 use Rattle.std.specs.Option.{option_map_or}
 use Rattle.chain.specs.Opening.{IsOpenEpoch}
@@ -29,6 +29,12 @@ pub record WasLeftOut (state : State) (newest epoch : ℕ) : Type 0 where
   pub before : epoch < newest
   pub made : epoch < length state.verdicts.items
   pub kept : IsKept state epoch
+
+-- an epoch before this one whose journal is made for it
+pub record IsMadeFor (old new : State) (epoch one : ℕ) : Type 0 where
+  pub missed : length old.verdicts.items ≤ one
+  pub made : one < length new.verdicts.items
+  pub before : one < epoch
 
 -- by the chain's rule the epoch is open, and its journal wasn't put away
 pub record MayRun (chain : Chain) (state : State) (epoch : ℕ) : Type 0 where

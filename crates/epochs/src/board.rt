@@ -127,7 +127,7 @@ impl Switchboard {
         let doors = Doors::new(self.alloc)?;
         let kept = doors.share()?;
         state.enter(&self.chain, Running::new(epoch, kept))?;
-        state.unpark(rt, self.alloc, epoch, &doors);
+        state.unpark(rt, epoch, &doors);
         Ok(Some((epoch, doors)))
     }
 

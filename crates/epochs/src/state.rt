@@ -1,13 +1,14 @@
 //! The state that the switchboard guards: begin at `State`.
 
-ghost use Rattle.std.specs.Prelude.{ℕ, ◌≡◌, ◌≢◌, ◌⊎◌, ◌<◌, ◌≤◌, ◌==◌, ◌&&◌, Bool, true, false, not, max, None, Some, Contains, IfOk, IfSome, IsTrue, OnOk, filter, if◌then◌else◌, length, map, slice_get};
+ghost use Rattle.std.specs.Prelude.{ℕ, ◌≡◌, ◌≢◌, ◌⊎◌, ◌<◌, ◌≤◌, ◌==◌, ◌&&◌, Bool, true, false, not, max, None, Some, [], ◌∷◌, ◌++◌, Contains, IfOk, IfSome, IsTrue, OnErr, OnOk, filter, if◌then◌else◌, length, map, slice_get};
 ghost use Rattle.std.specs.Option.{option_map, option_map_or};
 ghost use Rattle.chain.specs.Opening.{IsOpenEpoch};
 ghost use Rattle.chain.specs.Slots.{chain_size};
 ghost use Rattle.chain.specs.declared.opening.Known.{Known};
 ghost use Rattle.epochs.specs.Asking.{HasFewAsks, asks_by, tells_next};
 ghost use Rattle.epochs.specs.Asks.{heard_since, not_asked, not_for, standing};
-ghost use Rattle.epochs.specs.Opens.{IsDue, IsKept, IsKnown, MayRun, WasLeftOut, first_open, has_gone_quiet, least, runs, ticked};
+ghost use Rattle.epochs.specs.Opens.{IsDue, IsKept, IsKnown, IsMadeFor, MayRun, WasLeftOut, first_open, has_gone_quiet, least, runs, ticked};
+ghost use Rattle.epochs.specs.Parking.{place_of, waiting_elsewhere};
 ghost use Rattle.epochs.specs.Reports.{noted, running_in};
 ghost use Rattle.epochs.specs.Verdicts.{verdict_at};
 ghost use Rattle.epochs.specs.declared.asks.TheConstants.{ASKS};
@@ -20,7 +21,6 @@ use crate::running::{QUIET, Running, is_quiet, note_report};
 use crate::verdicts::Verdicts;
 use chain::{Ask, Chain, Known};
 use std::alloc::Global;
-use std::mem;
 use std::sync::Wait;
 use terms::Memory;
 
@@ -209,31 +209,83 @@ impl State {
     }
 
     /// The epoch begins to run. Its journal is made, and those of epochs before it that were left
-    /// out, which are to be made up for.
-    pub(crate) fn enter(&mut self, chain: &Chain, running: Running) -> Result<(), Memory> {
-        for made in self.made()..running.epoch.saturating_add(1) {
+    /// out, which are to be made up for. If memory is refused, it doesn't run.
+    pub(crate) fn enter(&mut self, chain: &Chain, running: Running) -> Result<(), Memory>
+        ensures runs { OnOk result
+            (self.new.running.items ≡ self.old.running.items ++ running ∷ []) }
+        ensures waits { OnErr result (self.new.running.items ≡ self.old.running.items) }
+        ensures made { OnOk result (length self.new.verdicts.items
+            ≡ max (length self.old.verdicts.items) (tells_next running.epoch)) }
+        ensures left_out { (one : ℕ) → IsMadeFor self.old self.new running.epoch one →
+            Contains self.new.undone.items one }
+        ensures undone { (one : ℕ) → Contains self.old.undone.items one →
+            Contains self.new.undone.items one }
+        ensures rest { self.new ≡ record self.old {
+          changes = self.new.changes;
+          verdicts = self.new.verdicts;
+          running = self.new.running;
+          undone = self.new.undone;
+        } }
+    {
+        self.make(chain, running.epoch)?;
+        self.running.push(running)?;
+        Ok(())
+    }
+
+    /// The journals up to this epoch's are made. Those before it that are made for it are called:
+    /// an epoch is called before it counts as made, so that the next try begins with it if memory
+    /// is refused.
+    fn make(&mut self, chain: &Chain, epoch: u64) -> Result<(), Memory>
+        ensures made { OnOk result (length self.new.verdicts.items
+            ≡ max (length self.old.verdicts.items) (tells_next epoch)) }
+        ensures left_out { (one : ℕ) → IsMadeFor self.old self.new epoch one →
+            Contains self.new.undone.items one }
+        ensures undone { (one : ℕ) → Contains self.old.undone.items one →
+            Contains self.new.undone.items one }
+        ensures rest { self.new ≡ record self.old {
+          changes = self.new.changes;
+          verdicts = self.new.verdicts;
+          undone = self.new.undone;
+        } }
+    {
+        self.change();
+        for made in self.made()..epoch.saturating_add(1) {
+            self.call_before(made, epoch)?;
             let none = Verdicts::none(self.alloc, chain.size().questions())?;
             self.verdicts.push(none)?;
-            if made < running.epoch {
-                self.call(made)?;
-            }
         }
-        self.running.push(running)?;
-        self.change();
         Ok(())
     }
 
     /// Puts those that waited for the epoch at its doors.
-    pub(crate) fn unpark<R: Wait>(&mut self, rt: &R, alloc: Global, epoch: u64, doors: &Doors) {
-        let parked = mem::replace(&mut self.parked, Vec::new(alloc));
-        for one in parked {
-            if one.epoch != epoch {
-                let _closed = self.parked.push(one).is_err();
-            } else if one.is_link {
+    pub(crate) fn unpark<R: Wait>(&mut self, rt: &R, epoch: u64, doors: &Doors)
+        ensures gone { waiting_elsewhere epoch self.new.parked.items ≡ self.new.parked.items }
+        ensures others { waiting_elsewhere epoch self.new.parked.items
+            ≡ waiting_elsewhere epoch self.old.parked.items }
+        ensures rest { self.new ≡ record self.old { parked = self.new.parked } }
+    {
+        while let Some(one) = self.take_parked(epoch) {
+            if one.is_link {
                 doors.links.put(rt, one.arrival);
             } else {
                 doors.clients.put(rt, one.arrival);
             }
+        }
+    }
+
+    /// Takes the first that waits for the epoch out of those that wait.
+    fn take_parked(&mut self, epoch: u64) -> Option<Parked>
+        ensures others { waiting_elsewhere epoch self.new.parked.items
+            ≡ waiting_elsewhere epoch self.old.parked.items }
+        ensures none { result ≡ None →
+            waiting_elsewhere epoch self.new.parked.items ≡ self.new.parked.items }
+        ensures fewer { IfSome result
+            (λ _. length self.new.parked.items < length self.old.parked.items) }
+        ensures rest { self.new ≡ record self.old { parked = self.new.parked } }
+    {
+        match place_of(self.parked.as_slice(), epoch) {
+            Some(at) => Some(self.parked.remove(at)),
+            None => None,
         }
     }
 
@@ -505,6 +557,23 @@ impl State {
         Ok(())
     }
 
+    /// An epoch that is made for this one isn't done if it stands before it.
+    fn call_before(&mut self, made: u64, epoch: u64) -> Result<(), Memory>
+        ensures called { OnOk result (made < epoch → IsKept self.old made →
+            Contains self.new.undone.items made) }
+        ensures undone { (one : ℕ) → Contains self.old.undone.items one →
+            Contains self.new.undone.items one }
+        ensures rest { self.new ≡ record self.old {
+          changes = self.new.changes;
+          undone = self.new.undone;
+        } }
+    {
+        if made >= epoch {
+            return Ok(());
+        }
+        self.call(made)
+    }
+
     /// Returns how many epochs have a journal, or had one.
     pub(crate) fn made(&self) -> u64
         ensures { result ≡ length self.now.verdicts.items }
@@ -633,6 +702,13 @@ struct Parked {
     epoch: u64,
     is_link: bool,
     arrival: Arrival,
+}
+
+/// Returns the place of the first that waits for this epoch.
+fn place_of(parked: &[Parked], epoch: u64) -> Option<usize>
+    ensures { result ≡ place_of parked.now epoch }
+{
+    parked.iter().position(|one| one.epoch == epoch)
 }
 
 /// Returns the least of this number and of the epochs that run.
