@@ -98,16 +98,33 @@ impl fmt::Display for Reply {
                     needed(*size)
                 )
             }
-            Reply::State(QuestionState::Unproposed) => f.write_str("UNPROPOSED"),
-            Reply::State(QuestionState::Open { round, step }) => write!(f, "OPEN {round} {step}"),
-            Reply::State(QuestionState::Spent) => f.write_str("SPENT"),
-            Reply::State(QuestionState::Decided(false)) => f.write_str("DECIDED 0"),
-            Reply::State(QuestionState::Decided(true)) => f.write_str("DECIDED 1"),
+            Reply::State(state) => write!(f, "{}", StateText(*state)),
             Reply::Thin => f.write_str("THIN"),
             Reply::BadLine => f.write_str("ERR 1 line"),
             Reply::BadQuestion => f.write_str("ERR 2 question"),
             Reply::BadBit => f.write_str("ERR 3 bit"),
             Reply::Memory => f.write_str("ERR 4 memory"),
+        }
+    }
+}
+
+/// The text that says how a question stands.
+#[derive(Clone, Copy)]
+struct StateText(QuestionState);
+
+impl fmt::Display for StateText {
+    ghost use Rattle.std.specs.Prelude.{Some};
+    ghost use Rattle.desk.specs.Replies.{state_text};
+
+    ghost output = { λ text. Some (state_text text.0) };
+
+    fn fmt<W: fmt::Write>(&self, f: &mut fmt::Formatter<W>) -> fmt::Result {
+        match self.0 {
+            QuestionState::Unproposed => f.write_str("UNPROPOSED"),
+            QuestionState::Open { round, step } => write!(f, "OPEN {round} {step}"),
+            QuestionState::Spent => f.write_str("SPENT"),
+            QuestionState::Decided(false) => f.write_str("DECIDED 0"),
+            QuestionState::Decided(true) => f.write_str("DECIDED 1"),
         }
     }
 }
