@@ -2,8 +2,8 @@
 use Rattle.std.specs.Prelude.{◌≡◌, ℕ, Result, MatchResult}
 use Rattle.std.specs.Process.{exit_status}
 use Rattle.std.specs.declared.process.ExitCode.{ExitCode}
-use Rattle.system.specs.Faults.{fault_status}
-use Rattle.system.specs.declared.trouble.Failure.{Failure}
+use Rattle.troubles.specs.Faults.{fault_status}
+use Rattle.troubles.specs.declared.trouble.Failure.{Failure}
 
 -- the code that the program ends with: the status of what was done, or of the fault
 abbrev pub IsCodeOf : Result ℕ Failure → ExitCode → Type 0

@@ -9,14 +9,15 @@ ghost use Rattle.std.specs.Prelude.{◌≡◌, ◌≢◌, ◌⊎◌, IfOk};
 mod work;
 
 use crate::work::work;
+use asking::Caller;
 use clap::error::ErrorKind;
 use command_line::command;
+use files::number_words;
+use process::{HeldStreams, hold_streams};
 use std::io;
 use std::net::{TcpListener, TcpStream};
 use std::process::ExitCode;
-use system::{
-    Caller, Failure, Fault, HeldStreams, hold_streams, number_words, own_words, wants_quiet,
-};
+use troubles::{Failure, Fault, own_words, wants_quiet};
 
 fn main(rt: HostRuntime) -> io::Result<ExitCode> {
     let _sockets = no_sockets();

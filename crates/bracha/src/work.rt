@@ -1,17 +1,21 @@
 //! The work of each command: begin at `work`.
 
+use asking::{
+    Caller, Cluster, Gate, Motion, Query, StateForm, ask_all, ask_at, audit_all, await_at,
+    epochs_of_all, links_at, patience_of, propose_at, propose_to_all, run_gateway, state_at,
+    status_at, status_of_all, transcript_at, transcript_of_all,
+};
 use command_line::{
     AskWords, AuditWords, DecideWords, EpochsWords, GatewayWords, HearWords, NewClusterWords,
     ProposeWords, RoundsWords, RunWords, SimulateWords, StatusWords, Task, TranscriptWords,
 };
-use std::marker::Brand;
-use system::{
-    Audited, Caller, Choice, Cluster, Failure, Gate, Measuring, Motion, NewCluster, Query,
-    RunOptions, StateForm, ask_all, ask_at, audit_all, audit_file, audited_of, await_at,
-    check_file, dump_file, epochs_of_all, hear_end, hear_input, init_file, links_at, log_form,
-    measure_rounds, migrate_file, new_cluster, patience_of, propose_at, propose_to_all, run_file,
-    run_gateway, size_of, state_at, status_at, status_of_all, transcript_at, transcript_of_all,
+use files::{
+    Audited, Choice, Measuring, NewCluster, audit_file, audited_of, check_file, dump_file,
+    hear_end, hear_input, init_file, measure_rounds, migrate_file, new_cluster, size_of,
 };
+use std::marker::Brand;
+use system::{RunOptions, log_form, run_file};
+use troubles::Failure;
 
 /// Does the task, and gives the status to end with.
 pub(crate) fn work<R: Caller>(
@@ -117,7 +121,7 @@ fn decide<R: Caller>(rt: &R, host: &HostRuntime, words: DecideWords<'_>) -> Resu
         bit: words.bit,
         json: words.json,
     };
-    system::decide(rt, host, &cluster, motion)
+    asking::decide(rt, host, &cluster, motion)
 }
 
 /// Asks a member for its state, or all.
@@ -156,7 +160,7 @@ fn transcript<R: Caller>(
 
 /// Audits the transcript in a file, or those of all members.
 fn audit<R: Caller>(rt: &R, host: &HostRuntime, words: AuditWords<'_>) -> Result<u8, Failure> {
-    let form = system::AuditWords {
+    let form = files::AuditWords {
         all: words.all,
         question: words.question,
         n: words.n,
@@ -203,7 +207,7 @@ fn simulate(host: &HostRuntime, words: SimulateWords<'_>, quiet: bool) -> Result
         from: words.from,
         to: words.to,
     };
-    let form = system::SimulateWords {
+    let form = files::SimulateWords {
         script: words.script,
         trace: words.trace,
         chart: words.chart,
@@ -214,7 +218,7 @@ fn simulate(host: &HostRuntime, words: SimulateWords<'_>, quiet: bool) -> Result
         seconds: words.seconds,
         quiet,
     };
-    system::simulate(host, &form)
+    files::simulate(host, &form)
 }
 
 /// Measures how many rounds decisions take.

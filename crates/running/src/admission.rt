@@ -1,13 +1,13 @@
 //! The admission of peers and clients: how many are in, and the sockets of their sessions.
 
 use crate::ending::Ending;
-use crate::machine::Machine;
 use crate::places::{Entered, GREETINGS, Given, give, let_in};
 use crate::quota::Quota;
 use crate::slots::Slots;
 use crate::sockets::Sockets;
 use disk::Disk;
 use epochs::{Arrival, Said};
+use machine::Machine;
 use node::{Hub, Naming};
 use std::alloc::Global;
 use std::net::IpAddr;

@@ -1,9 +1,9 @@
 //! The clock of a run: the second that it is, and who waits for the next one.
 
 use crate::ending::Ending;
-use crate::machine::Machine;
 use crate::seconds::Seconds;
 use crate::timing::{CLOCK_PARTS, CLOCK_PAUSE};
+use machine::Machine;
 use std::sync::{Condvar, Mutex, Wait};
 use std::thread;
 use std::time::Duration;

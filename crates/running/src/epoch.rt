@@ -1,10 +1,10 @@
 //! The epoch of a member of a chain.
 
 use crate::life::Life;
-use crate::machine::Machine;
 use crate::shared::Shared;
 use disk::Disk;
 use epochs::{Doors, Report, Switchboard};
+use machine::Machine;
 use node::{Book, QuestionState};
 use std::sync::atomic::{AtomicBool, AtomicU64, Ordering};
 use std::sync::{Arc, Wait};

@@ -5,7 +5,6 @@ ghost use Rattle.std.specs.Prelude.{length, if◌then◌else◌, IfOk, OnErr};
 
 use crate::admission::Chair;
 use crate::life::Life;
-use crate::machine::Machine;
 use crate::refusals::Refusal;
 use crate::shared::Shared;
 use crate::sockets::{host_of, shut};
@@ -14,6 +13,7 @@ use desk::{FollowEnd, Follower, Outlet, Telling};
 use disk::Disk;
 use ghost_record::{Change, GhostRecord, Recorded};
 use links::StreamFault;
+use machine::Machine;
 use std::alloc::Global;
 use std::io::{ErrorKind, Read, Write};
 use std::marker::Model;

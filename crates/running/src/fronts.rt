@@ -2,14 +2,13 @@
 
 use crate::callers::Claim;
 use crate::doors::{Door, Listener};
-use crate::fault::RunFault;
 use crate::incoming::HELLO;
-use crate::machine::Machine;
 use crate::places::GREETINGS;
 use crate::run::{Operator, listen, local_door};
 use crate::sockets::shut;
 use crate::timing::{ACCEPT_PAUSE, HELLO_LIMIT};
 use epochs::{Arrival, Said, Switchboard};
+use machine::{Machine, RunFault};
 use std::io::Read;
 use std::net::{IpAddr, SocketAddr, TcpStream};
 use std::os::unix::net::UnixListener;

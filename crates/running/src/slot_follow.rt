@@ -2,12 +2,12 @@
 
 use crate::epoch::InChain;
 use crate::life::Life;
-use crate::machine::Machine;
 use crate::shared::Shared;
 use crate::timing::{FOLLOWER_SILENCE, SLOT_PAUSE};
 use chain::Slot;
 use disk::Disk;
 use epochs::Said;
+use machine::Machine;
 use std::alloc::Global;
 use std::io::Write;
 use std::net::TcpStream;

@@ -3,7 +3,7 @@
 ghost use Rattle.std.specs.Prelude.{◌≡◌};
 ghost use Rattle.running.specs.Threads.{least_threads, one_if};
 
-use crate::machine::Machine;
+use machine::Machine;
 use std::sync::{Condvar, Mutex};
 use std::thread;
 use terms::Size;

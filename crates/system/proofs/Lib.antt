@@ -1,6 +1,1 @@
-mod Listening
-mod Weakening
-pub mod Heads
-pub mod Numbers
-mod Adding
-mod Endings
+pub mod Adding

@@ -1,10 +1,12 @@
 //! The addresses of a member's sockets, by its settings.
 
-ghost use Rattle.system.specs.Sockets.{AreSocketsOf, IsSocketOf, dialled, everywhere, own_address};
+ghost use Rattle.asking.specs.Sockets.{AreSocketsOf, IsSocketOf};
+ghost use Rattle.system.specs.Dialled.{dialled, everywhere, own_address};
 ghost use Rattle.running.specs.declared.hosts.Hosts.TheVariants as hosts;
 ghost use Rattle.settings.specs.declared.address.Address.{Address as AddressOf};
 ghost use Rattle.std.specs.Prelude.{◌≡◌, true, false, None, Some, IfOk, IfSome, if◌then◌else◌, length, nat_lt, slice_set};
 
+use asking::{socket_address, socket_addresses};
 use running::{Addresses, Hosts};
 use settings::{Address, Settings};
 use std::alloc::Global;
@@ -19,13 +21,6 @@ const EVERYWHERE: [u8; 4] = [0, 0, 0, 0];
 
 /// The host by which a machine reaches itself.
 const THIS_MACHINE: [u8; 4] = [127, 0, 0, 1];
-
-/// The address as sockets have it.
-pub fn socket_address(address: &Address) -> SocketAddr
-    ensures { IsSocketOf address.now result }
-{
-    SocketAddr::new(IpAddr::from(address.octets), address.port)
-}
 
 /// Returns where the members of the settings are dialled and this one listens, how many clients are
 /// let in and may follow decisions, and from where links are taken: from the members' own hosts,
@@ -127,18 +122,4 @@ fn maybe_socket(address: &Option<Address>) -> Option<SocketAddr>
         Some(address) => Some(socket_address(address)),
         None => None,
     }
-}
-
-/// These addresses as sockets have them.
-pub(crate) fn socket_addresses(
-    alloc: Global,
-    addresses: &[Address],
-) -> Result<Vec<SocketAddr>, Memory>
-    ensures { IfOk result (λ sockets. AreSocketsOf addresses.now sockets.items) }
-{
-    let mut sockets = Vec::new(alloc);
-    for address in addresses {
-        sockets.push(socket_address(address))?;
-    }
-    Ok(sockets)
 }

@@ -4,23 +4,20 @@ ghost use Rattle.member.specs.Sound.{HasItsFile, IsSound};
 ghost use Rattle.member.specs.Readers.{member_saved, member_is_stopped, MemberStandsFor};
 ghost use Rattle.std.specs.Prelude.{◌≡◌, [], false};
 
-use crate::addresses::{addresses_of, socket_address};
-use crate::apart::own_links;
-use crate::epoch_files::{Span, epoch_path, epochs_in, is_missing, look_into, make_journal};
-use crate::fault::Fault;
-use crate::files::{Purpose, Source, open_good_disk};
-use crate::forgotten::{put_aside, refuse_forgotten};
-use crate::live::{Console, open_member, told_of_stop};
+use crate::addresses::addresses_of;
+use crate::live::{Console, open_to_run, told_of_stop};
 use crate::log::{ErrorLog, LogForm};
-use crate::trouble::{Failure, Whereabouts};
-use crate::unsynced::remove_old_mark;
+use asking::socket_address;
 use chain::{Chain, seed_of};
 use disk::{Disk, Premise};
 use epochs::{Doors, Switchboard, Verdicts};
-use member::Member;
-use running::{
-    Addresses, Fronts, InChain, Machine, Operator, RunFault, Start, run_fronts, run_member,
+use files::{
+    Purpose, Source, Span, epoch_path, epochs_in, is_missing, look_into, make_journal,
+    open_good_disk, own_links, put_aside, refuse_forgotten,
 };
+use machine::{Machine, RunFault};
+use member::Member;
+use running::{Addresses, Fronts, InChain, Operator, Start, run_fronts, run_member};
 use settings::Settings;
 use std::alloc::{AllocError, Global};
 use std::marker::Brand;
@@ -31,6 +28,7 @@ use std::sync::{Arc, Mutex, Wait};
 use std::time::Duration;
 use std::{io, thread};
 use terms::{Header, Memory};
+use troubles::{Failure, Fault, Whereabouts};
 
 /// The things that the epochs of a process were given.
 #[derive(Drop)]
@@ -98,11 +96,7 @@ impl Chained<'_> {
         refuse_forgotten(host, epoch.path, epoch.header.me())?;
         self.make_journals(rt, epoch.number)?;
         let (disk, source) = open_good_disk::<P>(host, epoch.path, Purpose::Run)?;
-        remove_old_mark(host, source.path);
-        let member = match open_member(host, &source, disk, &epoch.header) {
-            Ok(member) => member,
-            Err((failure, _)) => return Err(failure),
-        };
+        let member = open_to_run(host, &source, disk, &epoch.header)?;
         let addresses = self
             .addresses_at(epoch.number, doors)
             .map_err(|_| Fault::Memory)?;

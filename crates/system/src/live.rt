@@ -4,28 +4,28 @@ ghost use Rattle.journal.specs.declared.fault.JournalFault.{JournalFault};
 ghost use Rattle.member.specs.Outcomes.{IsARestart, IsNotOpened, IsOpened};
 ghost use Rattle.member.specs.Readers.{MemberStandsFor, member_is_stopped, member_saved};
 ghost use Rattle.member.specs.Sound.{HasItsFile, IsSound};
-ghost use Rattle.system.specs.Faults.{IsMeant, of_journal};
-ghost use Rattle.system.specs.declared.fault.Fault.TheVariants as ends;
-ghost use Rattle.running.specs.declared.fault.RunFault.TheVariants as ends_of_run;
+ghost use Rattle.troubles.specs.Faults.{IsMeant, of_journal};
+ghost use Rattle.troubles.specs.declared.fault.Fault.TheVariants as ends;
+ghost use Rattle.machine.specs.declared.fault.RunFault.TheVariants as ends_of_run;
 ghost use Rattle.std.specs.Prelude.{◌≡◌, ◌≢◌, [], false, IfErr, IfOk, IfSome, IsSome, None, Err, Ok, string_bytes};
 
-use crate::addresses::{addresses_of, socket_address};
+use crate::addresses::addresses_of;
 use crate::chained::{ChainOrder, run_chain};
-use crate::doors::{Door, foreign_words, own_door};
-use crate::fault::Fault;
-use crate::files::{Purpose, Source, failure_for, open_good_disk, read_settings};
-use crate::forgotten::{put_aside, refuse_forgotten};
-use crate::input::{Input, read_aside};
-use crate::limits::{clients_within, followers_within, is_starved, starved_words};
 use crate::local_desk::{leave_socket, listen_locally, with_socket};
 use crate::log::{ErrorLog, LogForm};
-use crate::process::{blocks_signals, is_called_off, most_files, warn_of_files};
-use crate::replaced::Watched;
-use crate::trouble::{Failure, Trouble, Whereabouts, trouble_of};
-use crate::unsynced::remove_old_mark;
+use asking::socket_address;
 use disk::{Disk, Premise};
+use files::{
+    Door, Purpose, Source, failure_for, foreign_words, open_good_disk, own_door, put_aside,
+    read_settings, refuse_forgotten, remove_old_mark,
+};
+use machine::{Machine, RunFault};
 use member::Member;
-use running::{Addresses, Machine, Operator, RunFault, Start, run_member};
+use process::{
+    Input, Watched, blocks_signals, clients_within, followers_within, is_called_off, is_starved,
+    most_files, read_aside, starved_words, warn_of_files,
+};
+use running::{Addresses, Operator, Start, run_member};
 use settings::Settings;
 use std::alloc::{AllocError, Global};
 use std::io::{self, Read, Write};
@@ -35,6 +35,7 @@ use std::sync::{Arc, Mutex};
 use std::thread;
 use std::time::Duration;
 use terms::Header;
+use troubles::{Failure, Fault, Trouble, Whereabouts, trouble_of};
 
 /// The words on a journal that is gone.
 const GONE: &str = "the file was removed or replaced while the member ran";
@@ -304,6 +305,30 @@ fn run_alone<'a, R: Machine, P: Premise + Send>(
     options: RunOptions,
     limits: FileLimits,
 ) -> Result<u8, Failure> {
+    let header = &settings.header;
+    refuse_forgotten(host, settings.journal.as_str(), header.me())?;
+    let (disk, source) = open_good_disk::<P>(host, settings.journal.as_str(), Purpose::Run)?;
+    let member = open_to_run(host, &source, disk, header)?;
+    if options.any_host {
+        warn_of_strangers(host);
+    }
+    warn_of_files(host, limits.files, header.size().n());
+    let addresses = addresses_to_run(host, settings, options, limits)?;
+    let opened = Opened {
+        member,
+        source,
+        addresses,
+    };
+    run_opened(rt, host, settings, options, opened)
+}
+
+/// Returns the addresses of the member of these settings, with what listens at its own socket.
+fn addresses_to_run(
+    host: &HostRuntime,
+    settings: &Settings,
+    options: RunOptions,
+    limits: FileLimits,
+) -> Result<Addresses, Failure> {
     let addresses = addresses_of(
         host.alloc(),
         settings,
@@ -312,24 +337,7 @@ fn run_alone<'a, R: Machine, P: Premise + Send>(
         limits.followers,
     )
     .map_err(|_| Fault::Memory)?;
-    refuse_forgotten(host, settings.journal.as_str(), settings.header.me())?;
-    let (disk, source) = open_good_disk::<P>(host, settings.journal.as_str(), Purpose::Run)?;
-    remove_old_mark(host, source.path);
-    let member = match open_member(host, &source, disk, &settings.header) {
-        Ok(member) => member,
-        Err((failure, _)) => return Err(failure),
-    };
-    if options.any_host {
-        warn_of_strangers(host);
-    }
-    warn_of_files(host, limits.files, settings.header.size().n());
-    let addresses = with_socket(host, addresses, settings)?;
-    let opened = Opened {
-        member,
-        source,
-        addresses,
-    };
-    run_opened(rt, host, settings, options, opened)
+    with_socket(host, addresses, settings)
 }
 
 /// The number of files that a process may open, and how many of them may be clients and followers.
@@ -489,10 +497,28 @@ fn trouble_of_stop(alloc: Global, source: &Source<'_>) -> Option<Trouble>
     }
 }
 
+/// Opens the member of that header to run it. The mark of a sync that failed before the machine was
+/// started is removed.
+pub(crate) fn open_to_run<D: Disk + Drop>(
+    host: &HostRuntime,
+    source: &Source<'_>,
+    disk: D,
+    header: &Header,
+) -> Result<Member<D>, Failure>
+    ensures opened { IfOk result (λ member. IsOpened D.Disk disk header.now member) }
+    ensures restart { IfOk result (λ member. IsARestart D.Disk disk header.now member) }
+{
+    remove_old_mark(host, source.path);
+    match open_member(host, source, disk, header) {
+        Ok(member) => Ok(member),
+        Err((failure, _)) => Err(failure),
+    }
+}
+
 /// Opens the member of that header on the disk of its journal. A fault hands the disk back beside
 /// what is told of it: no byte of the file was changed, and a crash left nothing of it but what it
 /// might have left before.
-pub(crate) fn open_member<D: Disk>(
+fn open_member<D: Disk>(
     host: &HostRuntime,
     source: &Source<'_>,
     disk: D,

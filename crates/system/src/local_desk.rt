@@ -1,20 +1,20 @@
 //! The socket of a member's desk in the file system: who may use it is said by the rights of a
 //! file.
 
-ghost use Rattle.system.specs.Faults.{IsMeant};
-ghost use Rattle.system.specs.Troubles.{IsNamed};
-ghost use Rattle.system.specs.declared.fault.Fault.TheVariants as ends;
-ghost use Rattle.running.specs.declared.fault.RunFault.TheVariants as ends_of_run;
+ghost use Rattle.troubles.specs.Faults.{IsMeant};
+ghost use Rattle.troubles.specs.Troubles.{IsNamed};
+ghost use Rattle.troubles.specs.declared.fault.Fault.TheVariants as ends;
+ghost use Rattle.machine.specs.declared.fault.RunFault.TheVariants as ends_of_run;
 ghost use Rattle.std.specs.Prelude.{◌≡◌, IfErr, IfOk};
 
-use crate::fault::Fault;
-use crate::trouble::{Failure, Whereabouts};
-use running::{Addresses, RunFault};
+use machine::RunFault;
+use running::Addresses;
 use settings::Settings;
 use std::fs::{self, Permissions};
 use std::io;
 use std::os::unix::fs::{FileTypeExt, PermissionsExt};
 use std::os::unix::net::{UnixListener, UnixStream};
+use troubles::{Failure, Fault, Whereabouts};
 
 /// These addresses, and what listens for clients of this machine where the settings name a path for
 /// it.

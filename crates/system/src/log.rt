@@ -3,13 +3,13 @@
 ghost use Rattle.std.specs.Fmt.{decimal};
 ghost use Rattle.std.specs.Prelude.{ℕ, ◌≡◌, ◌++◌, None, codes, drop, true, false, IfOk, IfSome, option_map, string_bytes};
 ghost use Rattle.system.specs.Logs.{bare_line, device_text, timed_line};
-ghost use Rattle.system.specs.Moments.{IsMoment};
+ghost use Rattle.process.specs.Moments.{IsMoment};
 ghost use Rattle.system.specs.declared.log.LogForm.TheVariants as form;
 
-use crate::files::first_error_in;
-use crate::moment::moment_text;
 use crate::objects::event_object;
 use disk::FirstError;
+use files::first_error_in;
+use process::moment_text;
 use running::{Log, LogEvent};
 use std::alloc::{AllocError, Global};
 use std::io::{self, Write};

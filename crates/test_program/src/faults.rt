@@ -4,17 +4,17 @@
 
 use commands::{DumpFault, InitFault, SimulateFault, TalkFault};
 use hearing::HearFault;
+use machine::RunFault;
 use member::MemberFault;
 use questions::CoreFault;
-use running::RunFault;
 use script::ScriptFault;
 use settings::{Key, SettingsFault};
 use sim::SimFault;
 use std::alloc::Global;
 use std::fmt::Display;
-use system::Fault;
 use terms::{Memory, SizeFault};
 use test_words::{journal_fault, words_of};
+use troubles::Fault;
 
 /// Plays a row.
 pub fn told(alloc: Global, action: &str) -> Option<String> {

@@ -9,13 +9,13 @@
 //! `called LINES` answer whether the process of this `/proc/self/status` blocks a signal that ends
 //! a member, and whether one waits.
 
+use process::{
+    clients_within, descriptors_lack, followers_within, is_blocked, is_called, open_limit,
+};
 use std::alloc::Global;
 use std::env::FillError;
 use std::rt::Env;
-use system::{
-    clients_within, descriptors_lack, followers_within, is_blocked, is_called, open_limit,
-    wants_quiet,
-};
+use troubles::wants_quiet;
 
 /// Plays a row.
 pub fn told(alloc: Global, action: &str) -> Option<String> {

@@ -1,0 +1,5 @@
+pub mod Disks
+pub mod Rows
+pub mod Shapes
+pub mod Words
+pub mod Doors

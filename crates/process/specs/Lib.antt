@@ -1,0 +1,4 @@
+pub mod Limits
+pub mod Signals
+pub mod Status
+pub mod Moments

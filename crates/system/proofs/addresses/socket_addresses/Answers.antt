@@ -1,7 +1,0 @@
-use Rattle.system.proofs.Listening.{next_is}
-use Rattle.system.proofs.addresses.socket_addresses.Goals as goal
-
-pub loop-address-preserved : goal.loop-address-preserved
-loop-address-preserved c =
-    next_is c.args.addresses.now c.loop-address.address-index _ c.loop-address.sockets.items c.push.new.self.items c.socket_address.result
-    c.loop-address-test.true c.loop-address.invariant c.socket_address.ensures c.in_ok-push.ensures.items

@@ -1,6 +1,0 @@
-use Rattle.std.proofs.Common.{take}
-use Rattle.system.specs.Sockets.{AreSocketsOf}
-use Rattle.system.proofs.addresses.socket_addresses.Given as goal
-
-abbrev pub invariant-loop-address : goal.invariant-loop-address
-invariant-loop-address l = AreSocketsOf (take l.address-index l.addresses) l.sockets.items

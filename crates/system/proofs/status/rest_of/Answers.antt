@@ -1,5 +1,0 @@
-use Rattle.system.proofs.Heads.{rest_is}
-use Rattle.system.proofs.status.rest_of.Goals as goal
-
-pub returns : goal.returns
-returns c = rest_is c.behind.result _ _ c.behind.ensures.some c.behind.ensures.exact
