@@ -4,4 +4,5 @@ pub mod Forgetting
 pub mod Noting
 pub mod Undone
 pub mod Reporting
-pub mod Parking
+pub mod Without
+pub mod Made

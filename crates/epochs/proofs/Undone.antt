@@ -2,7 +2,7 @@
 use Rattle.std.proofs.Common.{ℕ, ◌≡◌, ◌≢◌, ◌⊎◌, ◌+◌, ◌<◌, ◌≤◌, ◌==◌, inl, inr, zero, suc, Bool, true, false, not, cond, List, [], ◌∷◌, ◌++◌, Option, length, filter, IfSome, slice_get, refl, sym, ap, ◌∙◌, subst, arith}
 use Rattle.std.specs.List.{Contains}
 use Rattle.std.specs.Global.{Vec}
-use Rattle.epochs.specs.Opens.{IsKept, IsMadeFor, WasLeftOut}
+use Rattle.epochs.specs.Opens.{IsKept, IsMadeFor, IsMissed, WasLeftOut}
 use Rattle.epochs.specs.declared.state.State.{State}
 use Rattle.epochs.specs.declared.verdicts.Verdicts.{Verdicts}
 use Rattle.std.proofs.lemmas.Bool.{eq-eqb}
@@ -85,6 +85,24 @@ made_one_more old before called new epoch made count same longer alike so stay b
   where
     at_or_before : (one made : ℕ) → one < made + 1 → (one ≡ made) ⊎ (one < made)
     at_or_before one made within = grind (arith, within)
+
+-- an epoch that is called before it is made had no journal
+pub only_missed : {Before Now : Type 0} (old : State) (begun : List ℕ) (epoch made one : ℕ) → length old.verdicts.items ≤ made
+    → (Before → Contains begun one ⊎ IsMissed old epoch one) → (Now → Before ⊎ ((one ≡ made) × (made < epoch)))
+    → Now → Contains begun one ⊎ IsMissed old epoch one
+only_missed old begun epoch made one least before by now = elim (by now) [
+  | inl stood ↦ before stood
+  | inr new ↦ inr record { missed = omega (arith, least, new.0); before = omega (arith, new.0, new.1) }
+]
+
+-- where none more is made, those before the epoch stay called
+pub made_no_more : (old before called new : State) (epoch : ℕ) → new.verdicts.items ≡ before.verdicts.items → new.undone ≡ called.undone
+    → ((one : ℕ) → IsMadeFor old before epoch one → Contains before.undone.items one)
+    → ((one : ℕ) → Contains before.undone.items one → Contains called.undone.items one)
+    → (one : ℕ) → IsMadeFor old new epoch one → Contains new.undone.items one
+made_no_more old before called new epoch same alike left stay one is =
+    subst (λ (u : Vec ℕ). Contains u.items one) (sym alike)
+    (stay one (left one record { missed = is.missed; made = subst (λ (l : List Verdicts). one < length l) same is.made; before = is.before }))
 
 -- what is called, and then what is made, changes nothing else
 pub made_rest : (old before called : State) (pushed : Vec Verdicts) → before ≡ record old { changes = before.changes; verdicts = before.verdicts; undone = before.undone }

@@ -36,6 +36,11 @@ pub record IsMadeFor (old new : State) (epoch one : ℕ) : Type 0 where
   pub made : one < length new.verdicts.items
   pub before : one < epoch
 
+-- an epoch before this one that has no journal
+pub record IsMissed (state : State) (epoch one : ℕ) : Type 0 where
+  pub missed : length state.verdicts.items ≤ one
+  pub before : one < epoch
+
 -- by the chain's rule the epoch is open, and its journal wasn't put away
 pub record MayRun (chain : Chain) (state : State) (epoch : ℕ) : Type 0 where
   pub opens : (known : Known) → IsKnown state known → IsOpenEpoch (chain_size chain) known epoch

@@ -1,5 +1,5 @@
 -- What a report says of an epoch that runs.
-use Rattle.std.specs.Prelude.{ℕ, ◌==◌, ◌&&◌, ◌||◌, Bool, not, if◌then◌else◌, List, Option, find, position, nat_le}
+use Rattle.std.specs.Prelude.{ℕ, ◌==◌, ◌&&◌, ◌||◌, Bool, not, if◌then◌else◌, List, Option, filter, find, position, nat_le}
 use Rattle.epochs.specs.declared.board.Report.{Report}
 use Rattle.epochs.specs.declared.running.Running.{Running}
 use Rattle.epochs.specs.declared.running.TheConstants.{QUIET, COMPLETE, RESTING}
@@ -30,3 +30,7 @@ place_in running epoch = position (λ one. one.epoch == epoch) running
 -- the epoch among those that run
 abbrev pub running_in : List Running → ℕ → Option Running
 running_in running epoch = find (λ one. one.epoch == epoch) running
+
+-- those of other epochs
+abbrev pub running_elsewhere : ℕ → List Running → List Running
+running_elsewhere epoch running = filter (λ one. not (one.epoch == epoch)) running

@@ -1,5 +1,5 @@
 -- How the questions of an epoch were decided.
-use Rattle.std.specs.Prelude.{ℕ, ◌≡◌, ◌<◌, zero, suc, Bool, true, false, Option, None, Some, List, get_or, length, option_map}
+use Rattle.std.specs.Prelude.{ℕ, ◌≡◌, ◌<◌, zero, suc, Bool, true, false, Option, None, Some, List, [], get_or, length, option_map, replicate}
 use Rattle.terms_prelude.specs.Terms.{Record, decided}
 use Rattle.epochs.specs.declared.verdicts.Verdicts.{Verdicts}
 
@@ -12,6 +12,11 @@ cell_verdict _ = None
 -- the decision of a question, if it is known
 abbrev pub verdict_at : Verdicts → ℕ → Option Bool
 verdict_at verdicts question = cell_verdict (get_or verdicts.cells.items question 0)
+
+-- nothing of so many questions is known: none was proposed here, none is decided
+pub record IsUntouched (questions : ℕ) (verdicts : Verdicts) : Type 0 where
+  pub cells : verdicts.cells.items ≡ replicate questions 0
+  pub order : verdicts.order.items ≡ []
 
 -- the first, or else the second
 abbrev pub first_of : Option Bool → Option Bool → Option Bool

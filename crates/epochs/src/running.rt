@@ -103,7 +103,7 @@ pub(crate) fn note_report(
 }
 
 /// Returns the place of the epoch among those that run.
-fn place_in(running: &[Running], epoch: u64) -> Option<usize>
+pub(crate) fn place_in(running: &[Running], epoch: u64) -> Option<usize>
     ensures { result ≡ place_in running.now epoch }
 {
     running.iter().position(|one| one.epoch == epoch)

@@ -1,23 +1,23 @@
 //! The state that the switchboard guards: begin at `State`.
 
-ghost use Rattle.std.specs.Prelude.{ℕ, ◌≡◌, ◌≢◌, ◌⊎◌, ◌<◌, ◌≤◌, ◌==◌, ◌&&◌, Bool, true, false, not, max, None, Some, [], ◌∷◌, ◌++◌, Contains, IfOk, IfSome, IsTrue, OnErr, OnOk, filter, if◌then◌else◌, length, map, slice_get};
+ghost use Rattle.std.specs.Prelude.{ℕ, ◌≡◌, ◌≢◌, ◌⊎◌, ◌<◌, ◌≤◌, ◌==◌, ◌&&◌, Bool, true, false, not, max, None, Some, [], ◌∷◌, ◌++◌, All, Contains, IfOk, IfSome, IsTrue, OnErr, OnOk, filter, drop, if◌then◌else◌, length, map, slice_get, take};
 ghost use Rattle.std.specs.Option.{option_map, option_map_or};
 ghost use Rattle.chain.specs.Opening.{IsOpenEpoch};
 ghost use Rattle.chain.specs.Slots.{chain_size};
 ghost use Rattle.chain.specs.declared.opening.Known.{Known};
 ghost use Rattle.epochs.specs.Asking.{HasFewAsks, asks_by, tells_next};
 ghost use Rattle.epochs.specs.Asks.{heard_since, not_asked, not_for, standing};
-ghost use Rattle.epochs.specs.Opens.{IsDue, IsKept, IsKnown, IsMadeFor, MayRun, WasLeftOut, first_open, has_gone_quiet, least, runs, ticked};
+ghost use Rattle.epochs.specs.Opens.{IsDue, IsKept, IsKnown, IsMadeFor, IsMissed, MayRun, WasLeftOut, first_open, has_gone_quiet, least, runs, ticked};
 ghost use Rattle.epochs.specs.Parking.{place_of, waiting_elsewhere};
-ghost use Rattle.epochs.specs.Reports.{noted, running_in};
-ghost use Rattle.epochs.specs.Verdicts.{verdict_at};
+ghost use Rattle.epochs.specs.Reports.{noted, running_elsewhere, running_in};
+ghost use Rattle.epochs.specs.Verdicts.{IsUntouched, verdict_at};
 ghost use Rattle.epochs.specs.declared.asks.TheConstants.{ASKS};
 ghost use Rattle.epochs.specs.declared.board.Stored.TheVariants.{Decided};
 
 use crate::asks::Asks;
 use crate::board::{Doors, Report, Stored};
 use crate::inbox::Arrival;
-use crate::running::{QUIET, Running, is_quiet, note_report};
+use crate::running::{QUIET, Running, is_quiet, note_report, place_in};
 use crate::verdicts::Verdicts;
 use chain::{Ask, Chain, Known};
 use std::alloc::Global;
@@ -220,6 +220,12 @@ impl State {
             Contains self.new.undone.items one }
         ensures undone { (one : ℕ) → Contains self.old.undone.items one →
             Contains self.new.undone.items one }
+        ensures only { (one : ℕ) → Contains self.new.undone.items one →
+            Contains self.old.undone.items one ⊎ IsMissed self.old running.epoch one }
+        ensures known { take (length self.old.verdicts.items) self.new.verdicts.items
+            ≡ self.old.verdicts.items }
+        ensures fresh { All (IsUntouched (chain_size chain.now).questions)
+            (drop (length self.old.verdicts.items) self.new.verdicts.items) }
         ensures rest { self.new ≡ record self.old {
           changes = self.new.changes;
           verdicts = self.new.verdicts;
@@ -242,6 +248,12 @@ impl State {
             Contains self.new.undone.items one }
         ensures undone { (one : ℕ) → Contains self.old.undone.items one →
             Contains self.new.undone.items one }
+        ensures only { (one : ℕ) → Contains self.new.undone.items one →
+            Contains self.old.undone.items one ⊎ IsMissed self.old epoch one }
+        ensures known { take (length self.old.verdicts.items) self.new.verdicts.items
+            ≡ self.old.verdicts.items }
+        ensures fresh { All (IsUntouched (chain_size chain.now).questions)
+            (drop (length self.old.verdicts.items) self.new.verdicts.items) }
         ensures rest { self.new ≡ record self.old {
           changes = self.new.changes;
           verdicts = self.new.verdicts;
@@ -305,51 +317,193 @@ impl State {
         }
     }
 
-    /// The epoch has ended. Those that wait at its doors wait for it to run again, unless its
-    /// journal was put away: then they are closed.
-    pub(crate) fn leave<R: Wait>(&mut self, rt: &R, epoch: u64, verdicts: Verdicts) {
+    /// The epoch has ended, and its questions were decided so. Its links are closed. The clients at
+    /// its doors wait for it to run again; if its journal was put away, they are closed too.
+    pub(crate) fn leave<R: Wait>(&mut self, rt: &R, epoch: u64, verdicts: Verdicts)
+        ensures told { epoch < length self.old.verdicts.items →
+            slice_get self.new.verdicts.items epoch ≡ Some verdicts }
+        ensures journals { (other : ℕ) → other ≢ epoch →
+            slice_get self.new.verdicts.items other ≡ slice_get self.old.verdicts.items other }
+        ensures ended { running_elsewhere epoch self.new.running.items ≡ self.new.running.items }
+        ensures others { running_elsewhere epoch self.new.running.items
+            ≡ running_elsewhere epoch self.old.running.items }
+        ensures asks { standing self.new.asks ≡ not_for epoch (standing self.old.asks) }
+        ensures waiting { waiting_elsewhere epoch self.new.parked.items
+            ≡ waiting_elsewhere epoch self.old.parked.items }
+        ensures undone { (other : ℕ) → other ≢ epoch → Contains self.old.undone.items other →
+            Contains self.new.undone.items other }
+        ensures open { IsKept self.new epoch → Contains self.old.undone.items epoch →
+            Contains self.new.undone.items epoch }
+        ensures gone { (IsKept self.new epoch → ⊥) → Contains self.new.undone.items epoch → ⊥ }
+        ensures only { (one : ℕ) → Contains self.new.undone.items one →
+            Contains self.old.undone.items one ⊎ (one ≡ epoch) }
+        ensures rest { self.new ≡ record self.old {
+          changes = self.new.changes;
+          verdicts = self.new.verdicts;
+          running = self.new.running;
+          undone = self.new.undone;
+          asks = self.new.asks;
+          parked = self.new.parked;
+        } }
+    {
         self.asks.forget_epoch(epoch);
+        self.keep(epoch, verdicts);
+        self.change();
+        self.end(rt, epoch);
+    }
+
+    /// Keeps how the questions of the epoch were decided.
+    fn keep(&mut self, epoch: u64, verdicts: Verdicts)
+        ensures told { epoch < length self.old.verdicts.items →
+            slice_get self.new.verdicts.items epoch ≡ Some verdicts }
+        ensures journals { (other : ℕ) → other ≢ epoch →
+            slice_get self.new.verdicts.items other ≡ slice_get self.old.verdicts.items other }
+        ensures rest { self.new ≡ record self.old { verdicts = self.new.verdicts } }
+    {
         if let Some(cell) = self.verdicts.get_mut(epoch as usize) {
             *cell = verdicts;
         }
-        let is_gone = self.is_gone(epoch);
-        if is_gone {
-            self.finish(epoch);
-        }
-        if let Some(ended) = self.take_out(epoch) {
-            for arrival in ended.doors.clients.close(rt) {
-                if !is_gone {
-                    let _uncalled = self.call(epoch).is_err();
-                    self.park(epoch, false, arrival);
-                }
-            }
-            let _closed = ended.doors.links.close(rt);
-        }
-        self.change();
     }
 
-    /// Takes the epoch out of those that run.
-    fn take_out(&mut self, epoch: u64) -> Option<Running> {
-        let at = self.running.iter().position(|one| one.epoch == epoch)?;
-        if at >= self.running.len() {
-            return None;
+    /// The epoch doesn't run any more.
+    fn end<R: Wait>(&mut self, rt: &R, epoch: u64)
+        ensures ended { running_elsewhere epoch self.new.running.items ≡ self.new.running.items }
+        ensures others { running_elsewhere epoch self.new.running.items
+            ≡ running_elsewhere epoch self.old.running.items }
+        ensures waiting { waiting_elsewhere epoch self.new.parked.items
+            ≡ waiting_elsewhere epoch self.old.parked.items }
+        ensures undone { (other : ℕ) → other ≢ epoch → Contains self.old.undone.items other →
+            Contains self.new.undone.items other }
+        ensures open { IsKept self.old epoch → Contains self.old.undone.items epoch →
+            Contains self.new.undone.items epoch }
+        ensures gone { (IsKept self.old epoch → ⊥) → Contains self.new.undone.items epoch → ⊥ }
+        ensures only { (one : ℕ) → Contains self.new.undone.items one →
+            Contains self.old.undone.items one ⊎ (one ≡ epoch) }
+        ensures rest { self.new ≡ record self.old {
+          changes = self.new.changes;
+          running = self.new.running;
+          undone = self.new.undone;
+          parked = self.new.parked;
+        } }
+    {
+        if self.is_gone(epoch) {
+            self.finish(epoch);
+            self.close(rt, epoch);
+            return;
         }
-        Some(self.running.swap_remove(at))
+        self.suspend(rt, epoch);
+    }
+
+    /// Closes who waits at the doors of the epoch, which never runs again.
+    fn close<R: Wait>(&mut self, rt: &R, epoch: u64)
+        ensures ended { running_elsewhere epoch self.new.running.items ≡ self.new.running.items }
+        ensures others { running_elsewhere epoch self.new.running.items
+            ≡ running_elsewhere epoch self.old.running.items }
+        ensures rest { self.new ≡ record self.old { running = self.new.running } }
+    {
+        while let Some(ended) = self.take_out(epoch) {
+            let _closed = ended.doors.links.close(rt);
+            let _closed = ended.doors.clients.close(rt);
+        }
+    }
+
+    /// Closes the links at the doors of the epoch. The clients wait for it to run again.
+    fn suspend<R: Wait>(&mut self, rt: &R, epoch: u64)
+        ensures ended { running_elsewhere epoch self.new.running.items ≡ self.new.running.items }
+        ensures others { running_elsewhere epoch self.new.running.items
+            ≡ running_elsewhere epoch self.old.running.items }
+        ensures waiting { waiting_elsewhere epoch self.new.parked.items
+            ≡ waiting_elsewhere epoch self.old.parked.items }
+        ensures undone { (one : ℕ) → Contains self.old.undone.items one →
+            Contains self.new.undone.items one }
+        ensures only { (one : ℕ) → Contains self.new.undone.items one →
+            Contains self.old.undone.items one ⊎ (one ≡ epoch) }
+        ensures rest { self.new ≡ record self.old {
+          changes = self.new.changes;
+          running = self.new.running;
+          undone = self.new.undone;
+          parked = self.new.parked;
+        } }
+    {
+        while let Some(ended) = self.take_out(epoch) {
+            let _closed = ended.doors.links.close(rt);
+            self.park_all(epoch, ended.doors.clients.close(rt));
+        }
+    }
+
+    /// Takes the first of that epoch out of those that run.
+    fn take_out(&mut self, epoch: u64) -> Option<Running>
+        ensures others { running_elsewhere epoch self.new.running.items
+            ≡ running_elsewhere epoch self.old.running.items }
+        ensures none { result ≡ None →
+            running_elsewhere epoch self.new.running.items ≡ self.new.running.items }
+        ensures fewer { IfSome result
+            (λ _. length self.new.running.items < length self.old.running.items) }
+        ensures rest { self.new ≡ record self.old { running = self.new.running } }
+    {
+        match place_in(self.running.as_slice(), epoch) {
+            Some(at) => Some(self.running.remove(at)),
+            None => None,
+        }
+    }
+
+    /// These clients wait for the epoch. One for which it can't be called is closed.
+    fn park_all(&mut self, epoch: u64, clients: Vec<Arrival>)
+        ensures waiting { waiting_elsewhere epoch self.new.parked.items
+            ≡ waiting_elsewhere epoch self.old.parked.items }
+        ensures undone { (one : ℕ) → Contains self.old.undone.items one →
+            Contains self.new.undone.items one }
+        ensures only { (one : ℕ) → Contains self.new.undone.items one →
+            Contains self.old.undone.items one ⊎ (one ≡ epoch) }
+        ensures rest { self.new ≡ record self.old {
+          changes = self.new.changes;
+          undone = self.new.undone;
+          parked = self.new.parked;
+        } }
+    {
+        for client in clients {
+            self.call_and_park(epoch, client);
+        }
+    }
+
+    /// The client waits for the epoch, which isn't done then. If memory is refused, it is closed.
+    fn call_and_park(&mut self, epoch: u64, client: Arrival)
+        ensures waiting { waiting_elsewhere epoch self.new.parked.items
+            ≡ waiting_elsewhere epoch self.old.parked.items }
+        ensures undone { (one : ℕ) → Contains self.old.undone.items one →
+            Contains self.new.undone.items one }
+        ensures only { (one : ℕ) → Contains self.new.undone.items one →
+            Contains self.old.undone.items one ⊎ (one ≡ epoch) }
+        ensures rest { self.new ≡ record self.old {
+          changes = self.new.changes;
+          undone = self.new.undone;
+          parked = self.new.parked;
+        } }
+    {
+        if self.call(epoch).is_ok() {
+            self.park(epoch, false, client);
+        }
     }
 
     /// Parks a connection until its epoch runs. It is closed if too many wait.
-    pub(crate) fn park(&mut self, epoch: u64, is_link: bool, arrival: Arrival) {
-        if self.parked.len() < PARKED {
-            let _closed = self
-                .parked
-                .push(Parked {
-                    epoch,
-                    is_link,
-                    arrival,
-                })
-                .is_err();
-        }
+    pub(crate) fn park(&mut self, epoch: u64, is_link: bool, arrival: Arrival)
+        ensures others { waiting_elsewhere epoch self.new.parked.items
+            ≡ waiting_elsewhere epoch self.old.parked.items }
+        ensures rest { self.new ≡ record self.old {
+          changes = self.new.changes;
+          parked = self.new.parked;
+        } }
+    {
         self.change();
+        if self.parked.len() >= PARKED {
+            return;
+        }
+        let parked = Parked {
+            epoch,
+            is_link,
+            arrival,
+        };
+        let _closed = self.parked.push(parked).is_err();
     }
 
     /// Notes how an epoch stands that runs. One without progress for ten seconds is done if nothing
@@ -563,6 +717,8 @@ impl State {
             Contains self.new.undone.items made) }
         ensures undone { (one : ℕ) → Contains self.old.undone.items one →
             Contains self.new.undone.items one }
+        ensures only { (one : ℕ) → Contains self.new.undone.items one →
+            Contains self.old.undone.items one ⊎ ((one ≡ made) × (made < epoch)) }
         ensures rest { self.new ≡ record self.old {
           changes = self.new.changes;
           undone = self.new.undone;

@@ -1,7 +1,7 @@
 //! The decisions of an epoch: begin at `Verdicts`.
 
-ghost use Rattle.std.specs.Prelude.{ℕ, ◌≡◌, ◌⊎◌, ◌<◌, ◌==◌, Bool, true, false, None, Some, IfOk, cond, length, replicate};
-ghost use Rattle.epochs.specs.Verdicts.{SaysOf, first_of, verdict_at};
+ghost use Rattle.std.specs.Prelude.{ℕ, ◌≡◌, ◌⊎◌, ◌<◌, ◌==◌, Bool, true, false, None, Some, IfOk, cond, length};
+ghost use Rattle.epochs.specs.Verdicts.{IsUntouched, SaysOf, first_of, verdict_at};
 
 use std::alloc::Global;
 use terms::{Header, Kind, Memory, Record, Statement};
@@ -28,7 +28,7 @@ impl Verdicts {
 
     /// Those of an epoch of so many questions, of which none is decided.
     pub fn none(alloc: Global, questions: u16) -> Result<Verdicts, Memory>
-        ensures { IfOk result (λ none. none.cells.items ≡ replicate questions 0) }
+        ensures { IfOk result (IsUntouched questions) }
     {
         let mut cells = Vec::new(alloc);
         cells.resize(usize::from(questions), 0u8)?;

@@ -1,14 +1,15 @@
-use Rattle.std.proofs.Common.{List, ap, sym, ◌∙◌}
+use Rattle.std.proofs.Common.{List, ◌==◌, ap, sym, ◌∙◌}
 use Rattle.epochs.specs.Parking.{place_of}
 use Rattle.epochs.specs.declared.state.Parked.{Parked}
-use Rattle.epochs.proofs.Parking.{nobody, others}
+use Rattle.epochs.proofs.Without.{nobody, others}
 use Rattle.epochs.proofs.state.State.take_parked.Goals as goal
 
 pub returns-in-Some-clause-others : goal.returns-in-Some-clause-others
 returns-in-Some-clause-others c =
-    others c.args.self.now.parked.items c.remove.new.self.items c.args.epoch c.in-Some.at c.remove.result
+    others (λ (one : Parked). one.epoch == c.args.epoch) c.args.self.now.parked.items c.remove.new.self.items c.in-Some.at c.remove.result
     (ap (λ (l : List Parked). place_of l c.args.epoch) (sym c.as_slice.ensures.value) ∙ sym c.in-Some.ensures) c.remove.ensures.items
 
 pub returns-in-None-clause-none : goal.returns-in-None-clause-none
 returns-in-None-clause-none c = λ _.
-    nobody c.args.self.now.parked.items c.args.epoch (ap (λ (l : List Parked). place_of l c.args.epoch) (sym c.as_slice.ensures.value) ∙ sym c.in-None.ensures)
+    nobody (λ (one : Parked). one.epoch == c.args.epoch) c.args.self.now.parked.items
+    (ap (λ (l : List Parked). place_of l c.args.epoch) (sym c.as_slice.ensures.value) ∙ sym c.in-None.ensures)

@@ -1,9 +1,7 @@
--- Connections that wait for an epoch.
+-- Lists without those that pass a test, for who waits for an epoch and for what runs.
 use Rattle.std.proofs.Common.{ℕ, ◌≡◌, ◌+◌, ◌<◌, ◌≤◌, ◌==◌, zero, suc, Bool, true, false, not, cond, List, [], ◌∷◌, None, Some, length, filter, get_or, refl, sym, ap, ◌∙◌, arith, tests}
 use Rattle.std.specs.List.{remove, position, position_or_len, prefix_len}
 use Rattle.std.proofs.lemmas.List.Quantifiers.{position-Some}
-use Rattle.epochs.specs.declared.state.Parked.{Parked}
-use Rattle.epochs.specs.Parking.{place_of, waiting_elsewhere}
 
 -- what fails a test may be taken out of what passes it
 filter-removed : {X : Type 0} (q : X → Bool) (xs : List X) (at : ℕ) (d : X) → at < length xs → q (get_or xs at d) ≡ false → filter q (remove xs at) ≡ filter q xs
@@ -19,17 +17,15 @@ filter_all {X} q (x ∷ xs) all = by (q x) (filter_all q xs) all where
   by true rest all = ap (λ (l : List X). x ∷ l) (rest (omega (arith, all)))
   by false rest all = absurd (omega (arith, all))
 
--- where none waits for the epoch all wait for others
-pub nobody : (parked : List Parked) (epoch : ℕ) → place_of parked epoch ≡ None → waiting_elsewhere epoch parked ≡ parked
-nobody parked epoch none =
-    let p : Parked → Bool = λ (one : Parked). one.epoch == epoch in
-    let past : length parked ≤ position_or_len p parked = grind (arith, tests) in
-    filter_all (λ (one : Parked). not (p one)) parked past
+-- where none passes all fail
+pub nobody : {X : Type 0} (p : X → Bool) (xs : List X) → position p xs ≡ None → filter (λ x. not (p x)) xs ≡ xs
+nobody p xs none =
+    let past : length xs ≤ position_or_len p xs = grind (arith, tests) in
+    filter_all (λ x. not (p x)) xs past
 
--- where the first is taken out, those that wait for other epochs stay
-pub others : (parked less : List Parked) (epoch at : ℕ) (d : Parked) → place_of parked epoch ≡ Some at → less ≡ remove parked at
-    → waiting_elsewhere epoch less ≡ waiting_elsewhere epoch parked
-others parked less epoch at d placed is =
-    let p : Parked → Bool = λ (one : Parked). one.epoch == epoch in
-    let found = position-Some p parked at d placed in
-    ap (waiting_elsewhere epoch) is ∙ filter-removed (λ (one : Parked). not (p one)) parked at d found.0 (ap not found.1)
+-- where the first that passes is taken out, those that fail stay
+pub others : {X : Type 0} (p : X → Bool) (xs less : List X) (at : ℕ) (d : X) → position p xs ≡ Some at → less ≡ remove xs at
+    → filter (λ x. not (p x)) less ≡ filter (λ x. not (p x)) xs
+others p xs less at d placed is =
+    let found = position-Some p xs at d placed in
+    ap (filter (λ x. not (p x))) is ∙ filter-removed (λ x. not (p x)) xs at d found.0 (ap not found.1)
