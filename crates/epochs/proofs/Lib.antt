@@ -6,3 +6,4 @@ pub mod Undone
 pub mod Reporting
 pub mod Without
 pub mod Made
+pub mod Ordering

@@ -1,6 +1,7 @@
 -- How the questions of an epoch were decided.
-use Rattle.std.specs.Prelude.{ℕ, ◌≡◌, ◌<◌, zero, suc, Bool, true, false, Option, None, Some, List, [], get_or, length, option_map, replicate}
-use Rattle.terms_prelude.specs.Terms.{Record, decided}
+use Rattle.std.specs.Prelude.{ℕ, ◌≡◌, ◌<◌, ◌==◌, ◌&&◌, zero, suc, Bool, true, false, not, Option, None, Some, List, [], ◌∷◌, ◌++◌, filter, get_or, length, nat_lt, option_map, replicate}
+use Rattle.std.specs.Option.{is_none}
+use Rattle.terms_prelude.specs.Terms.{Record, Said, Decided, decided}
 use Rattle.epochs.specs.declared.verdicts.Verdicts.{Verdicts}
 
 -- the decision that a cell keeps, if it keeps one
@@ -18,6 +19,10 @@ pub record IsUntouched (questions : ℕ) (verdicts : Verdicts) : Type 0 where
   pub cells : verdicts.cells.items ≡ replicate questions 0
   pub order : verdicts.order.items ≡ []
 
+-- whether it is a question of the epoch, and no decision of it is known
+abbrev pub is_open : Verdicts → ℕ → Bool
+is_open verdicts question = is_none (verdict_at verdicts question) && nat_lt question (length verdicts.cells.items)
+
 -- the first, or else the second
 abbrev pub first_of : Option Bool → Option Bool → Option Bool
 first_of (Some bit) other = Some bit
@@ -27,7 +32,23 @@ first_of None other = other
 abbrev pub decided_bit : List Record → ℕ → Option Bool
 decided_bit records question = option_map (λ at. at.1) (decided records question)
 
--- of each question of an epoch they have the first decision among the records
+-- the questions of the decisions among the records, in their order
+abbrev pub decided_in : List Record → List ℕ
+decided_in [] = []
+decided_in (Said s ∷ records) = decided_in records
+decided_in (Decided question round bit ∷ records) = question ∷ decided_in records
+
+-- each of them where it comes first
+abbrev pub first_ones : List ℕ → List ℕ
+first_ones [] = []
+first_ones (question ∷ questions) = question ∷ filter (λ other. not (other == question)) (first_ones questions)
+
+-- the order of the decisions, once these records are read too
+abbrev pub order_with : Verdicts → List Record → List ℕ
+order_with verdicts records = verdicts.order.items ++ filter (is_open verdicts) (first_ones (decided_in records))
+
+-- of each question of an epoch they have the first decision among the records, in the order of these
 pub record SaysOf (questions : ℕ) (records : List Record) (verdicts : Verdicts) : Type 0 where
   pub size : length verdicts.cells.items ≡ questions
   pub each : (question : ℕ) → question < questions → verdict_at verdicts question ≡ decided_bit records question
+  pub order : verdicts.order.items ≡ filter (λ question. nat_lt question questions) (first_ones (decided_in records))

@@ -809,9 +809,16 @@ impl State {
 
     /// Returns the question that was decided at this place in an epoch that doesn't run, and its
     /// bit.
-    pub(crate) fn decided_at(&self, epoch: u64, place: u16) -> Option<(u16, bool)> {
-        let verdicts = self.verdicts.get(epoch as usize)?;
-        verdicts.decided_at(place)
+    pub(crate) fn decided_at(&self, epoch: u64, place: u16) -> Option<(u16, bool)>
+        ensures question { IfSome result (λ told. IfSome (slice_get self.now.verdicts.items epoch)
+            (λ one. slice_get one.order.items place ≡ Some told.0)) }
+        ensures bit { IfSome result (λ told. IfSome (slice_get self.now.verdicts.items epoch)
+            (λ one. verdict_at one told.0 ≡ Some told.1)) }
+    {
+        match self.verdicts.get(epoch as usize) {
+            Some(verdicts) => verdicts.decided_at(place),
+            None => None,
+        }
     }
 
     /// Returns what is known of a question of an epoch that doesn't run; none of one that does.

@@ -1,7 +1,8 @@
 //! The decisions of an epoch: begin at `Verdicts`.
 
-ghost use Rattle.std.specs.Prelude.{ℕ, ◌≡◌, ◌⊎◌, ◌<◌, ◌==◌, Bool, true, false, None, Some, IfOk, cond, length};
-ghost use Rattle.epochs.specs.Verdicts.{IsUntouched, SaysOf, first_of, verdict_at};
+ghost use Rattle.std.specs.Prelude.{ℕ, ◌≡◌, ◌⊎◌, ◌<◌, ◌==◌, Bool, true, false, None, Some, [], ◌∷◌, ◌++◌, List, IfOk, IfSome, OnOk, cond, length, slice_get};
+ghost use Rattle.epochs.specs.Verdicts.{IsUntouched, SaysOf, decided_bit, first_of, is_open, order_with, verdict_at};
+ghost use Rattle.terms_prelude.specs.Terms.{Record};
 
 use std::alloc::Global;
 use terms::{Header, Kind, Memory, Record, Statement};
@@ -48,14 +49,7 @@ impl Verdicts {
     {
         let mut verdicts = Verdicts::none(alloc, header.size().questions())?;
         for record in records {
-            match *record {
-                Record::Decided { question, bit, .. } => verdicts.decide(question, bit)?,
-                Record::Said(said) => {
-                    if is_own_proposal(header.me(), said) {
-                        verdicts.propose(said.place().question());
-                    }
-                }
-            }
+            verdicts.read(header.me(), *record)?;
         }
         Ok(verdicts)
     }
@@ -84,9 +78,18 @@ impl Verdicts {
     }
 
     /// Returns the question that was decided at this place of the journal's decisions, and its bit.
-    pub(crate) fn decided_at(&self, place: u16) -> Option<(u16, bool)> {
-        let question = *self.order.get(usize::from(place))?;
-        Some((question, self.of(question)?))
+    pub(crate) fn decided_at(&self, place: u16) -> Option<(u16, bool)>
+        ensures question { IfSome result
+            (λ told. slice_get self.now.order.items place ≡ Some told.0) }
+        ensures bit { IfSome result (λ told. verdict_at self.now told.0 ≡ Some told.1) }
+    {
+        let Some(question) = self.order.get(usize::from(place)) else {
+            return None;
+        };
+        match self.of(*question) {
+            Some(bit) => Some((*question, bit)),
+            None => None,
+        }
     }
 
     /// Returns the decision of the question, if it is known.
@@ -100,6 +103,27 @@ impl Verdicts {
         }
     }
 
+    /// Reads the next record of the journal of member me.
+    fn read(&mut self, me: u8, next: Record) -> Result<(), Memory>
+        ensures each { OnOk result
+            ((q : ℕ) (later : List Record) → q < length self.old.cells.items →
+            first_of (verdict_at self.new q) (decided_bit later q)
+            ≡ first_of (verdict_at self.old q) (decided_bit (next ∷ later) q)) }
+        ensures order { OnOk result ((later : List Record) →
+            order_with self.new later ≡ order_with self.old (next ∷ later)) }
+        ensures size { length self.new.cells.items ≡ length self.old.cells.items }
+    {
+        match next {
+            Record::Decided { question, bit, .. } => self.decide(question, bit),
+            Record::Said(said) => {
+                if is_own_proposal(me, said) {
+                    self.propose(said.place().question());
+                }
+                Ok(())
+            }
+        }
+    }
+
     /// The question was decided for this bit. Of several decisions the first counts.
     fn decide(&mut self, question: u16, bit: bool) -> Result<(), Memory>
         ensures first { (verdict_at self.old question ≡ None → ⊥) → self.new ≡ self.old }
@@ -109,9 +133,11 @@ impl Verdicts {
             (λ _. (q : ℕ) → q < length self.old.cells.items →
             verdict_at self.new q ≡ first_of (verdict_at self.old q)
             (cond (question == q) (Some bit) None)) }
+        ensures order { OnOk result (self.new.order.items ≡ cond (is_open self.old question)
+            (self.old.order.items ++ question ∷ []) self.old.order.items) }
         ensures size { length self.new.cells.items ≡ length self.old.cells.items }
     {
-        if self.of(question).is_some() || usize::from(question) >= self.cells.len() {
+        if !self.is_open(question) {
             return Ok(());
         }
         self.order.push(question)?;
@@ -121,8 +147,16 @@ impl Verdicts {
         Ok(())
     }
 
+    /// Returns `true` if it is a question of the epoch, and no decision of it is known.
+    fn is_open(&self, question: u16) -> bool
+        ensures { result ≡ is_open self.now question }
+    {
+        self.of(question).is_none() && usize::from(question) < self.cells.len()
+    }
+
     /// The question was proposed to this member.
     fn propose(&mut self, question: u16)
+        ensures order { self.new.order ≡ self.old.order }
         ensures kept { (q : ℕ) → verdict_at self.new q ≡ verdict_at self.old q }
         ensures size { length self.new.cells.items ≡ length self.old.cells.items }
     {

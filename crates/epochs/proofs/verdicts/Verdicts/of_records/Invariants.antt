@@ -1,11 +1,13 @@
-use Rattle.std.proofs.Common.{ℕ, ◌≡◌, ◌<◌, length, drop}
-use Rattle.epochs.specs.Verdicts.{decided_bit, first_of, verdict_at}
+use Rattle.std.proofs.Common.{ℕ, ◌≡◌, ◌<◌, filter, length, drop}
+use Rattle.std.specs.Prelude.{nat_lt}
+use Rattle.epochs.specs.Verdicts.{decided_bit, decided_in, first_of, first_ones, order_with, verdict_at}
 use Rattle.epochs.proofs.verdicts.Verdicts.of_records.Given as goal
 
--- a decision that is known, or else the first among the records that are left, is the first among all
+-- a decision that is known, or else the first among the records that are left, is the first among all; so is their order
 abbrev pub invariant-loop-record : goal.invariant-loop-record
 invariant-loop-record l = record {
   size : length l.verdicts.cells.items ≡ l.header.size.questions;
   each : (question : ℕ) → question < l.header.size.questions →
       first_of (verdict_at l.verdicts question) (decided_bit (drop l.record-index l.records) question) ≡ decided_bit l.records question;
+  order : order_with l.verdicts (drop l.record-index l.records) ≡ filter (λ question. nat_lt question l.header.size.questions) (first_ones (decided_in l.records));
 }
