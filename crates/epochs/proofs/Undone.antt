@@ -66,7 +66,7 @@ pub kept_alike : (old now : State) (epoch : ℕ) → now.verdicts ≡ old.verdic
 kept_alike old now epoch same kept = subst (λ (v : Vec Verdicts). IfSome (slice_get v.items epoch) (λ verdicts. 0 < length verdicts.cells.items)) same kept
 
 -- the journal of an epoch that isn't made yet wasn't put away
-kept_past : (state : State) (epoch : ℕ) → length state.verdicts.items ≤ epoch → IsKept state epoch
+pub kept_past : (state : State) (epoch : ℕ) → length state.verdicts.items ≤ epoch → IsKept state epoch
 kept_past state epoch past =
     subst (λ (one : Option Verdicts). IfSome one (λ verdicts. 0 < length verdicts.cells.items)) (sym (slice_get_past state.verdicts.items epoch past)) tt
 

@@ -1,5 +1,5 @@
 -- What a report says of an epoch that runs.
-use Rattle.std.specs.Prelude.{ℕ, ◌==◌, ◌&&◌, ◌||◌, Bool, not, if◌then◌else◌, List, Option, filter, find, position, nat_le}
+use Rattle.std.specs.Prelude.{ℕ, ◌==◌, ◌&&◌, ◌||◌, Bool, true, not, if◌then◌else◌, List, Option, filter, find, position, nat_le}
 use Rattle.epochs.specs.declared.board.Report.{Report}
 use Rattle.epochs.specs.declared.running.Running.{Running}
 use Rattle.epochs.specs.declared.running.TheConstants.{QUIET, COMPLETE, RESTING}
@@ -22,6 +22,10 @@ abbrev pub noted : Report → Running → Running
 noted report one =
     let quiet = quiet_after report one.progress one.quiet in
     record one { progress = report.progress; quiet = quiet; rests = is_resting report quiet }
+
+-- the same, once its member listens
+abbrev pub readied : Running → Running
+readied one = record one { is_ready = true }
 
 -- the place of an epoch among those that run
 abbrev pub place_in : List Running → ℕ → Option ℕ

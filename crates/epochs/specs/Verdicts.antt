@@ -1,5 +1,6 @@
 -- How the questions of an epoch were decided.
-use Rattle.std.specs.Prelude.{ℕ, ◌≡◌, ◌<◌, ◌==◌, ◌&&◌, zero, suc, Bool, true, false, not, Option, None, Some, List, [], ◌∷◌, ◌++◌, filter, get_or, length, nat_lt, option_map, replicate}
+use Rattle.std.specs.Prelude.{ℕ, ◌≡◌, ◌<◌, ◌==◌, ◌&&◌, ◌||◌, zero, suc, Bool, true, false, not, Option, None, Some, List, [], ◌∷◌, ◌++◌, filter, get_or, length, nat_lt, option_map, replicate}
+use Rattle.std.specs.List.{list_any}
 use Rattle.std.specs.Option.{is_none}
 use Rattle.terms_prelude.specs.Terms.{Record, Said, Decided, decided}
 use Rattle.epochs.specs.declared.verdicts.Verdicts.{Verdicts}
@@ -22,6 +23,14 @@ pub record IsUntouched (questions : ℕ) (verdicts : Verdicts) : Type 0 where
 -- whether it is a question of the epoch, and no decision of it is known
 abbrev pub is_open : Verdicts → ℕ → Bool
 is_open verdicts question = is_none (verdict_at verdicts question) && nat_lt question (length verdicts.cells.items)
+
+-- some are decided, or none is, and some aren't
+abbrev pub is_partial : Verdicts → Bool
+is_partial verdicts = nat_lt (length verdicts.order.items) (length verdicts.cells.items)
+
+-- a question was proposed here and isn't decided, or one is decided
+abbrev pub has_begun : Verdicts → Bool
+has_begun verdicts = list_any (λ cell. cell == 3) verdicts.cells.items || nat_lt 0 (length verdicts.order.items)
 
 -- the first, or else the second
 abbrev pub first_of : Option Bool → Option Bool → Option Bool

@@ -2,7 +2,7 @@
 
 ghost use Rattle.std.specs.Prelude.{◌≡◌, ◌≢◌, ℕ, ◌==◌, position, Option};
 ghost use Rattle.std.specs.Option.{option_map};
-ghost use Rattle.epochs.specs.Reports.{is_quiet, is_resting, noted, place_in, quiet_after, running_in};
+ghost use Rattle.epochs.specs.Reports.{is_quiet, is_resting, noted, place_in, quiet_after, readied, running_in};
 
 use crate::board::{Doors, Report};
 
@@ -99,6 +99,21 @@ pub(crate) fn note_report(
             Some((one.quiet, one.rests))
         }
         None => None,
+    }
+}
+
+/// Notes that the member of the epoch listens, if that runs.
+pub(crate) fn note_ready(running: &mut Vec<Running>, epoch: u64)
+    ensures noted { running_in running.new.items epoch
+        ≡ option_map readied (running_in running.old.items epoch) }
+    ensures others { (other : ℕ) → other ≢ epoch →
+        running_in running.new.items other ≡ running_in running.old.items other }
+{
+    let Some(at) = place_in(running.as_slice(), epoch) else {
+        return;
+    };
+    if let Some(one) = running.get_mut(at) {
+        one.is_ready = true;
     }
 }
 

@@ -1,6 +1,7 @@
 //! The state that the switchboard guards: begin at `State`.
 
-ghost use Rattle.std.specs.Prelude.{ℕ, ◌≡◌, ◌≢◌, ◌⊎◌, ◌<◌, ◌≤◌, ◌==◌, ◌&&◌, Bool, true, false, not, max, None, Some, [], ◌∷◌, ◌++◌, All, Contains, IfOk, IfSome, IsTrue, OnErr, OnOk, filter, drop, if◌then◌else◌, length, map, slice_get, take};
+ghost use Rattle.std.specs.Prelude.{ℕ, ◌≡◌, ◌≢◌, ◌⊎◌, ◌<◌, ◌≤◌, ◌==◌, ◌&&◌, ◌+◌, Bool, true, false, not, max, None, Some, [], ◌∷◌, ◌++◌, All, Contains, IfOk, IfSome, IsTrue, OnErr, OnOk, filter, drop, if◌then◌else◌, length, map, nat_le, nat_lt, slice_get, take};
+ghost use Rattle.std.specs.Borrow.{Bor};
 ghost use Rattle.std.specs.Option.{option_map, option_map_or};
 ghost use Rattle.chain.specs.Opening.{IsOpenEpoch};
 ghost use Rattle.chain.specs.Slots.{chain_size};
@@ -9,15 +10,19 @@ ghost use Rattle.epochs.specs.Asking.{HasFewAsks, asks_by, tells_next};
 ghost use Rattle.epochs.specs.Asks.{heard_since, not_asked, not_for, standing};
 ghost use Rattle.epochs.specs.Opens.{IsDue, IsKept, IsKnown, IsMadeFor, IsMissed, MayRun, WasLeftOut, first_open, has_gone_quiet, least, runs, ticked};
 ghost use Rattle.epochs.specs.Parking.{place_of, waiting_elsewhere};
-ghost use Rattle.epochs.specs.Reports.{noted, running_elsewhere, running_in};
-ghost use Rattle.epochs.specs.Verdicts.{IsUntouched, verdict_at};
+ghost use Rattle.epochs.specs.Reports.{noted, readied, running_elsewhere, running_in};
+ghost use Rattle.epochs.specs.Verdicts.{IsUntouched, has_begun, is_partial, verdict_at};
 ghost use Rattle.epochs.specs.declared.asks.TheConstants.{ASKS};
-ghost use Rattle.epochs.specs.declared.board.Stored.TheVariants.{Decided};
+ghost use Rattle.epochs.specs.declared.board.Doors.{Doors};
+ghost use Rattle.epochs.specs.declared.board.Stored.TheVariants.{Ahead, Decided, Far, Gone, Open};
+ghost use Rattle.epochs.specs.declared.state.Place.TheVariants as place;
+ghost use Rattle.epochs.specs.declared.state.TheConstants.{AHEAD};
+ghost use Rattle.epochs.specs.declared.running.TheConstants.{QUIET};
 
 use crate::asks::Asks;
 use crate::board::{Doors, Report, Stored};
 use crate::inbox::Arrival;
-use crate::running::{QUIET, Running, is_quiet, note_report, place_in};
+use crate::running::{QUIET, Running, is_quiet, note_ready, note_report, place_in};
 use crate::verdicts::Verdicts;
 use chain::{Ask, Chain, Known};
 use std::alloc::Global;
@@ -91,16 +96,47 @@ impl State {
     }
 
     /// Adds the next epoch whose journal is there.
-    pub(crate) fn add(&mut self, verdicts: Verdicts) -> Result<(), Memory> {
+    pub(crate) fn add(&mut self, verdicts: Verdicts) -> Result<(), Memory>
+        ensures added { OnOk result
+            (self.new.verdicts.items ≡ self.old.verdicts.items ++ verdicts ∷ []) }
+        ensures newest { OnOk result (self.new.newest ≡ (if has_begun verdicts
+            then max self.old.newest (length self.old.verdicts.items) else self.old.newest)) }
+        ensures undone { (one : ℕ) → Contains self.old.undone.items one →
+            Contains self.new.undone.items one }
+        ensures open { OnOk result (is_partial verdicts ≡ true →
+            Contains self.new.undone.items (length self.old.verdicts.items)) }
+        ensures left_out { OnOk result (has_begun verdicts ≡ true →
+            (one : ℕ) → WasLeftOut self.old (length self.old.verdicts.items) one →
+            Contains self.new.undone.items one) }
+        ensures rest { self.new ≡ record self.old {
+          newest = self.new.newest;
+          changes = self.new.changes;
+          verdicts = self.new.verdicts;
+          undone = self.new.undone;
+        } }
+    {
         let epoch = self.made();
-        if verdicts.is_undone() || verdicts.has_decisions() {
-            self.advance(epoch)?;
-        }
-        if verdicts.is_partial() {
-            self.call(epoch)?;
-        }
+        self.begin_if(verdicts.has_begun(), epoch)?;
+        self.call_if(verdicts.is_partial(), epoch)?;
         self.verdicts.push(verdicts)?;
         Ok(())
+    }
+
+    /// The epoch isn't done, if this is `true`.
+    fn call_if(&mut self, is_open: bool, epoch: u64) -> Result<(), Memory>
+        ensures called { OnOk result (is_open ≡ true → IsKept self.old epoch →
+            Contains self.new.undone.items epoch) }
+        ensures undone { (one : ℕ) → Contains self.old.undone.items one →
+            Contains self.new.undone.items one }
+        ensures rest { self.new ≡ record self.old {
+          changes = self.new.changes;
+          undone = self.new.undone;
+        } }
+    {
+        if !is_open {
+            return Ok(());
+        }
+        self.call(epoch)
     }
 
     /// A peer asks for an epoch, at most for two at once. It is to ask again within five seconds.
@@ -122,12 +158,21 @@ impl State {
     }
 
     /// Returns the place to which a connection of the epoch goes.
-    pub(crate) fn place_of(&self, chain: &Chain, epoch: u64) -> Place<'_> {
-        match self.running_at(epoch) {
-            Some(running) => Place::Runs(&running.doors),
-            None if self.is_to_run(chain, epoch) => Place::IsDue,
-            None => Place::Nowhere,
+    pub(crate) fn place_of(&self, chain: &Chain, epoch: u64) -> Place<'_>
+        ensures runs { (doors : Bor Doors) → result ≡ place.Runs doors →
+            option_map (λ one. one.doors) (running_in self.now.running.items epoch)
+            ≡ Some doors.now }
+        ensures due { result ≡ place.IsDue → IsDue chain.now self.now epoch }
+        ensures nowhere { result ≡ place.Nowhere →
+            running_in self.now.running.items epoch ≡ None }
+    {
+        if let Some(running) = self.running_at(epoch) {
+            return Place::Runs(&running.doors);
         }
+        if self.is_to_run(chain, epoch) {
+            return Place::IsDue;
+        }
+        Place::Nowhere
     }
 
     /// Returns an epoch that is to run and doesn't: the newest, the one in front of it, or one of
@@ -269,6 +314,25 @@ impl State {
         Ok(())
     }
 
+    /// An epoch that is made for this one isn't done if it stands before it.
+    fn call_before(&mut self, made: u64, epoch: u64) -> Result<(), Memory>
+        ensures called { OnOk result (made < epoch → IsKept self.old made →
+            Contains self.new.undone.items made) }
+        ensures undone { (one : ℕ) → Contains self.old.undone.items one →
+            Contains self.new.undone.items one }
+        ensures only { (one : ℕ) → Contains self.new.undone.items one →
+            Contains self.old.undone.items one ⊎ ((one ≡ made) × (made < epoch)) }
+        ensures rest { self.new ≡ record self.old {
+          changes = self.new.changes;
+          undone = self.new.undone;
+        } }
+    {
+        if made >= epoch {
+            return Ok(());
+        }
+        self.call(made)
+    }
+
     /// Puts those that waited for the epoch at its doors.
     pub(crate) fn unpark<R: Wait>(&mut self, rt: &R, epoch: u64, doors: &Doors)
         ensures gone { waiting_elsewhere epoch self.new.parked.items ≡ self.new.parked.items }
@@ -302,15 +366,25 @@ impl State {
     }
 
     /// The epoch's member listens.
-    pub(crate) fn note_ready(&mut self, epoch: u64) {
-        if let Some(running) = self.running_mut(epoch) {
-            running.is_ready = true;
-        }
+    pub(crate) fn note_ready(&mut self, epoch: u64)
+        ensures noted { running_in self.new.running.items epoch
+            ≡ option_map readied (running_in self.old.running.items epoch) }
+        ensures others { (other : ℕ) → other ≢ epoch → running_in self.new.running.items other
+            ≡ running_in self.old.running.items other }
+        ensures rest { self.new ≡ record self.old {
+          changes = self.new.changes;
+          running = self.new.running;
+        } }
+    {
+        note_ready(&mut self.running, epoch);
         self.change();
     }
 
     /// Returns `true` if the member of the newest epoch listens.
-    pub(crate) fn is_ready(&self) -> bool {
+    pub(crate) fn is_ready(&self) -> bool
+        ensures { result ≡ option_map_or (λ one. one.is_ready)
+            (running_in self.now.running.items self.now.newest) false }
+    {
         match self.running_at(self.newest) {
             Some(running) => running.is_ready,
             None => false,
@@ -660,12 +734,6 @@ impl State {
         self.undone.retain(|one| *one != epoch);
     }
 
-    /// Returns the epoch among those that run, to be changed.
-    fn running_mut(&mut self, epoch: u64) -> Option<&mut Running> {
-        let at = self.running.iter().position(|one| one.epoch == epoch)?;
-        self.running.get_mut(at)
-    }
-
     /// The member has a proposal or a decision in this epoch. Those that it left out are to be made
     /// up for. If memory is refused, this is the newest epoch all the same.
     pub(crate) fn advance(&mut self, epoch: u64) -> Result<(), Memory>
@@ -709,25 +777,6 @@ impl State {
             self.call(epoch)?;
         }
         Ok(())
-    }
-
-    /// An epoch that is made for this one isn't done if it stands before it.
-    fn call_before(&mut self, made: u64, epoch: u64) -> Result<(), Memory>
-        ensures called { OnOk result (made < epoch → IsKept self.old made →
-            Contains self.new.undone.items made) }
-        ensures undone { (one : ℕ) → Contains self.old.undone.items one →
-            Contains self.new.undone.items one }
-        ensures only { (one : ℕ) → Contains self.new.undone.items one →
-            Contains self.old.undone.items one ⊎ ((one ≡ made) × (made < epoch)) }
-        ensures rest { self.new ≡ record self.old {
-          changes = self.new.changes;
-          undone = self.new.undone;
-        } }
-    {
-        if made >= epoch {
-            return Ok(());
-        }
-        self.call(made)
     }
 
     /// Returns how many epochs have a journal, or had one.
@@ -797,7 +846,11 @@ impl State {
 
     /// Returns `true` if the epoch is behind the newest, and no decision of it is to be waited for:
     /// it doesn't run, or nothing has happened in it for ten seconds.
-    pub(crate) fn is_passed(&self, epoch: u64) -> bool {
+    pub(crate) fn is_passed(&self, epoch: u64) -> bool
+        ensures { result ≡ (nat_lt epoch self.now.newest
+            && option_map_or (λ one. nat_le QUIET one.quiet)
+            (running_in self.now.running.items epoch) true) }
+    {
         if epoch >= self.newest {
             return false;
         }
@@ -823,9 +876,15 @@ impl State {
 
     /// Returns what is known of a question of an epoch that doesn't run; none of one that does.
     pub(crate) fn stored(&self, epoch: u64, question: u16) -> Option<Stored>
-        ensures { (bit : Bool) → result ≡ Some (Decided bit) →
+        ensures runs { result ≢ None → running_in self.now.running.items epoch ≡ None }
+        ensures decided { (bit : Bool) → result ≡ Some (Decided bit) →
             IfSome (slice_get self.now.verdicts.items epoch)
             (λ one. verdict_at one question ≡ Some bit) }
+        ensures open { result ≡ Some Open → IfSome (slice_get self.now.verdicts.items epoch)
+            (λ one. verdict_at one question ≡ None) }
+        ensures gone { result ≡ Some Gone → IsKept self.now epoch → ⊥ }
+        ensures ahead { result ≡ Some Ahead → self.now.newest + 1 < epoch }
+        ensures far { result ≡ Some Far → self.now.newest + AHEAD < epoch }
     {
         if self.running_at(epoch).is_some() {
             return None;
@@ -843,7 +902,9 @@ impl State {
     }
 
     /// Returns the epoch among those that run.
-    fn running_at(&self, epoch: u64) -> Option<&Running> {
+    fn running_at(&self, epoch: u64) -> Option<&Running>
+        ensures { option_map (λ one. one.now) result ≡ running_in self.now.running.items epoch }
+    {
         self.running.iter().find(|one| one.epoch == epoch)
     }
 

@@ -1,7 +1,8 @@
 //! The decisions of an epoch: begin at `Verdicts`.
 
 ghost use Rattle.std.specs.Prelude.{ℕ, ◌≡◌, ◌⊎◌, ◌<◌, ◌==◌, Bool, true, false, None, Some, [], ◌∷◌, ◌++◌, List, IfOk, IfSome, OnOk, cond, length, slice_get};
-ghost use Rattle.epochs.specs.Verdicts.{IsUntouched, SaysOf, decided_bit, first_of, is_open, order_with, verdict_at};
+ghost use Rattle.std.specs.List.{list_any};
+ghost use Rattle.epochs.specs.Verdicts.{IsUntouched, SaysOf, decided_bit, first_of, has_begun, is_open, is_partial, order_with, verdict_at};
 ghost use Rattle.terms_prelude.specs.Terms.{Record};
 
 use std::alloc::Global;
@@ -55,7 +56,9 @@ impl Verdicts {
     }
 
     /// Returns `true` if a question was proposed to this member and isn't decided.
-    pub fn is_undone(&self) -> bool {
+    pub fn is_undone(&self) -> bool
+        ensures { result ≡ list_any (λ cell. cell == 3) self.now.cells.items }
+    {
         self.cells.iter().any(|cell| *cell == 3)
     }
 
@@ -67,13 +70,17 @@ impl Verdicts {
         self.cells.is_empty()
     }
 
-    /// Returns `true` if a question is decided.
-    pub(crate) fn has_decisions(&self) -> bool {
-        !self.order.is_empty()
+    /// Returns `true` if a question is decided, or was proposed to this member.
+    pub(crate) fn has_begun(&self) -> bool
+        ensures { result ≡ has_begun self.now }
+    {
+        self.is_undone() || self.order.len() > 0
     }
 
     /// Returns `true` if some are decided, or none is, and some aren't.
-    pub(crate) fn is_partial(&self) -> bool {
+    pub(crate) fn is_partial(&self) -> bool
+        ensures { result ≡ is_partial self.now }
+    {
         self.order.len() < self.cells.len()
     }
 
