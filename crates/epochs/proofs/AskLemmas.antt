@@ -1,5 +1,5 @@
 -- Which ask is which.
-use Rattle.std.proofs.Common.{ℕ, ◌≡◌, ◌<◌, ◌≤◌, ◌==◌, Bool, true, false, not, cond, List, [], ◌∷◌, ◌++◌, length, get_or, None, Some, refl, sym, ap, ap₂, ◌∙◌, subst, arith, rules, tests}
+use Rattle.std.proofs.Common.{ℕ, ◌≡◌, ◌<◌, ◌≤◌, ◌==◌, Bool, true, false, cond, List, [], ◌∷◌, ◌++◌, length, get_or, None, refl, sym, ap, ◌∙◌, subst, arith, rules, tests}
 use Rattle.std.specs.List.{Contains, position, remove}
 use Rattle.std.proofs.lemmas.List.Sums.{fails_before_first, sum_by_push, sum_by-remove}
 use Rattle.std.proofs.lemmas.Bool.{eqb-true}

@@ -1,5 +1,5 @@
 -- What is forgotten, and what stays.
-use Rattle.std.proofs.Common.{ℕ, ◌≡◌, ◌+◌, ◌-◌, ◌<◌, ◌≤◌, suc, Bool, true, false, not, List, ◌++◌, length, filter, take, drop, get_or, refl, sym, ap, ap₂, ◌∙◌, subst, arith, rules}
+use Rattle.std.proofs.Common.{ℕ, ◌≡◌, ◌<◌, suc, true, false, not, List, length, get_or, sym, ap, ap₂, ◌∙◌, arith}
 use Rattle.std.specs.List.{zip, remove}
 use Rattle.std.proofs.Math.Bool.{not-not}
 use Rattle.std.proofs.lemmas.Slice.Zip.{get_or-zip, length-zip}

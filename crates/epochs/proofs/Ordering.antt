@@ -1,14 +1,13 @@
 -- The order of an epoch's decisions.
-use Rattle.std.proofs.Common.{ℕ, ◌≡◌, ◌<◌, ◌≤◌, ◌==◌, ◌&&◌, Bool, true, false, cond, not, List, [], ◌∷◌, ◌++◌, Option, None, Some, filter, get_or, length, replicate, refl, sym, ap, ap₂, ◌∙◌, subst, arith}
+use Rattle.std.proofs.Common.{ℕ, ◌≡◌, ◌<◌, ◌==◌, ◌&&◌, Bool, true, false, cond, not, List, [], ◌∷◌, ◌++◌, Option, None, Some, filter, length, refl, sym, ap, ap₂, ◌∙◌, arith}
 use Rattle.std.specs.Prelude.{nat_lt}
 use Rattle.std.specs.Option.{is_none}
 use Rattle.std.proofs.lemmas.Bool.Decides.{nat_tests}
-use Rattle.std.proofs.lemmas.List.{append_assoc, get_or-replicate, get_or_past, length-replicate}
-use Rattle.std.specs.Global.{Vec}
-use Rattle.epochs.specs.Verdicts.{cell_verdict, first_of, first_ones, is_open, verdict_at}
+use Rattle.std.proofs.lemmas.List.{append_assoc}
+use Rattle.epochs.specs.Verdicts.{first_of, first_ones, is_open, verdict_at}
 use Rattle.epochs.specs.declared.verdicts.Verdicts.{Verdicts}
 
-pub filter_alike : {X : Type 0} (p q : X → Bool) (xs : List X) → ((x : X) → p x ≡ q x) → filter p xs ≡ filter q xs
+filter_alike : {X : Type 0} (p q : X → Bool) (xs : List X) → ((x : X) → p x ≡ q x) → filter p xs ≡ filter q xs
 filter_alike p q [] alike = refl
 filter_alike {X} p q (x ∷ xs) alike = ap₂ (λ (b : Bool) (l : List X). cond b (x ∷ l) l) (alike x) (filter_alike p q xs alike)
 
@@ -21,7 +20,7 @@ filter_twice {X} p q (x ∷ xs) = by (q x) (filter_twice p q xs) where
   by false same = same
 
 -- one question more is behind those before if it was open, and else nothing changes
-pub one_more : (now next : ℕ → Bool) (order : List ℕ) (question : ℕ) (later : List ℕ) → ((x : ℕ) → next x ≡ (not (x == question) && now x))
+one_more : (now next : ℕ → Bool) (order : List ℕ) (question : ℕ) (later : List ℕ) → ((x : ℕ) → next x ≡ (not (x == question) && now x))
     → order ++ filter now (first_ones (question ∷ later)) ≡ cond (now question) (order ++ question ∷ []) order ++ filter next (first_ones later)
 one_more now next order question later is =
     let others : ℕ → Bool = λ x. not (x == question) in
@@ -33,7 +32,7 @@ one_more now next order question later is =
     by false before behind same = ap (λ (l : List ℕ). order ++ l) same
 
 -- what is open once a question was decided was open before, and isn't that one
-pub open_after : (old new : Verdicts) (question : ℕ) (bit : Bool) → length new.cells.items ≡ length old.cells.items
+open_after : (old new : Verdicts) (question : ℕ) (bit : Bool) → length new.cells.items ≡ length old.cells.items
     → ((q : ℕ) → q < length old.cells.items → verdict_at new q ≡ first_of (verdict_at old q) (cond (question == q) (Some bit) None))
     → (x : ℕ) → is_open new x ≡ (not (x == question) && is_open old x)
 open_after old new question bit size decided x = by (nat_lt x (length old.cells.items)) refl where
@@ -69,23 +68,7 @@ open_after old new question bit size decided x = by (nat_lt x (length old.cells.
       ∙ outer (is_none (verdict_at new x)) (not (x == question)) (is_none (verdict_at old x))
       ∙ ap (λ (b : Bool). not (x == question) && (is_none (verdict_at old x) && b)) (sym is)
 
--- a proposal leaves open what is
-pub open_alike : (old new : Verdicts) → length new.cells.items ≡ length old.cells.items → ((q : ℕ) → verdict_at new q ≡ verdict_at old q)
-    → (x : ℕ) → is_open new x ≡ is_open old x
-open_alike old new size kept x = ap₂ (λ (v : Option Bool) (n : ℕ). is_none v && nat_lt x n) (kept x) size
-
--- of an epoch of which nothing is known each question is open
-pub all_open : (none : Verdicts) (questions : ℕ) → none.cells.items ≡ replicate questions 0 → (x : ℕ) → is_open none x ≡ nat_lt x questions
-all_open none questions cells x =
-    ap₂ (λ (v : Option Bool) (n : ℕ). is_none v && nat_lt x n) (ap cell_verdict (ap (λ (l : List ℕ). get_or l x 0) cells ∙ zeros questions x)) (ap length cells ∙ length-replicate questions 0)
-  where
-    zeros : (n x : ℕ) → ◌≡◌ {A = ℕ} (get_or (replicate n 0) x 0) 0
-    zeros n x = by (nat_lt x n) refl where
-      by : (is : Bool) → nat_lt x n ≡ is → ◌≡◌ {A = ℕ} (get_or (replicate n 0) x 0) 0
-      by true is = get_or-replicate n x 0 0 (grind (arith, nat_tests, is))
-      by false is = get_or_past (replicate n 0) x 0 (subst (λ (m : ℕ). m ≤ x) (sym (length-replicate n 0)) (grind (arith, nat_tests, is)))
-
--- a decision that is read, or a proposal
+-- the order once a decision is read
 pub decision_read : (old new : Verdicts) (question : ℕ) (bit : Bool) → length new.cells.items ≡ length old.cells.items
     → ((q : ℕ) → q < length old.cells.items → verdict_at new q ≡ first_of (verdict_at old q) (cond (question == q) (Some bit) None))
     → new.order.items ≡ cond (is_open old question) (old.order.items ++ question ∷ []) old.order.items
@@ -93,15 +76,3 @@ pub decision_read : (old new : Verdicts) (question : ℕ) (bit : Bool) → lengt
 decision_read old new question bit size decided order later =
     ap (λ (l : List ℕ). l ++ filter (is_open new) (first_ones later)) order
     ∙ sym (one_more (is_open old) (is_open new) old.order.items question later (open_after old new question bit size decided))
-
-pub proposal_read : (old new : Verdicts) → length new.cells.items ≡ length old.cells.items → ((q : ℕ) → verdict_at new q ≡ verdict_at old q)
-    → new.order ≡ old.order
-    → (later : List ℕ) → new.order.items ++ filter (is_open new) (first_ones later) ≡ old.order.items ++ filter (is_open old) (first_ones later)
-proposal_read old new size kept order later =
-    ap₂ (λ (o : Vec ℕ) (l : List ℕ). o.items ++ l) order (filter_alike (is_open new) (is_open old) (first_ones later) (open_alike old new size kept))
-
--- before the first record
-pub begun : (none : Verdicts) (questions : ℕ) → none.cells.items ≡ replicate questions 0 → none.order.items ≡ []
-    → (all : List ℕ) → none.order.items ++ filter (is_open none) all ≡ filter (λ question. nat_lt question questions) all
-begun none questions cells order all =
-    ap₂ (λ (o l : List ℕ). o ++ l) order (filter_alike (is_open none) (λ question. nat_lt question questions) all (all_open none questions cells))

@@ -1,5 +1,5 @@
 -- Lists of asks beside the list of the seconds in which they were heard.
-use Rattle.std.proofs.Common.{ℕ, ◌≡◌, ◌+◌, ◌<◌, ◌≤◌, zero, suc, Bool, true, false, cond, not, List, [], ◌∷◌, ◌++◌, length, filter, take, drop, get_or, set, refl, sym, ap, ap₂, ◌∙◌, subst, arith, rules, append-nil, length-set}
+use Rattle.std.proofs.Common.{ℕ, ◌≡◌, ◌<◌, ◌≤◌, zero, suc, Bool, true, false, cond, List, [], ◌∷◌, ◌++◌, length, filter, take, drop, get_or, set, refl, sym, ap, ap₂, ◌∙◌, subst, arith, append-nil, length-set}
 use Rattle.std.specs.List.{zip, remove, Contains}
 use Rattle.epochs.specs.Asking.{tested_at}
 use Rattle.std.proofs.lemmas.List.{get_or-set_same}

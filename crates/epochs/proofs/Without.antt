@@ -1,5 +1,5 @@
 -- Lists without those that pass a test, for who waits for an epoch and for what runs.
-use Rattle.std.proofs.Common.{ℕ, ◌≡◌, ◌+◌, ◌<◌, ◌≤◌, ◌==◌, zero, suc, Bool, true, false, not, cond, List, [], ◌∷◌, None, Some, length, filter, get_or, refl, sym, ap, ◌∙◌, arith, tests}
+use Rattle.std.proofs.Common.{ℕ, ◌≡◌, ◌+◌, ◌<◌, ◌≤◌, zero, suc, Bool, true, false, not, cond, List, [], ◌∷◌, None, Some, length, filter, get_or, refl, sym, ap, ◌∙◌, arith, tests}
 use Rattle.std.specs.List.{remove, position, position_or_len, prefix_len}
 use Rattle.std.proofs.lemmas.List.Quantifiers.{position-Some}
 

@@ -1,8 +1,8 @@
 -- How the questions of an epoch were decided.
 use Rattle.std.specs.Prelude.{ℕ, ◌≡◌, ◌<◌, ◌==◌, ◌&&◌, ◌||◌, zero, suc, Bool, true, false, not, Option, None, Some, List, [], ◌∷◌, ◌++◌, filter, get_or, length, nat_lt, option_map, replicate}
 use Rattle.std.specs.List.{list_any}
-use Rattle.std.specs.Option.{is_none}
-use Rattle.terms_prelude.specs.Terms.{Record, Said, Decided, decided}
+use Rattle.std.specs.Option.{is_none, is_some}
+use Rattle.terms_prelude.specs.Terms.{Place, Record, Said, Decided, Initial, decided, new_place, said}
 use Rattle.epochs.specs.declared.verdicts.Verdicts.{Verdicts}
 
 -- the decision that a cell keeps, if it keeps one
@@ -24,9 +24,9 @@ pub record IsUntouched (questions : ℕ) (verdicts : Verdicts) : Type 0 where
 abbrev pub is_open : Verdicts → ℕ → Bool
 is_open verdicts question = is_none (verdict_at verdicts question) && nat_lt question (length verdicts.cells.items)
 
--- some are decided, or none is, and some aren't
-abbrev pub is_partial : Verdicts → Bool
-is_partial verdicts = nat_lt (length verdicts.order.items) (length verdicts.cells.items)
+-- a question isn't decided
+abbrev pub has_open : Verdicts → Bool
+has_open verdicts = nat_lt (length verdicts.order.items) (length verdicts.cells.items)
 
 -- a question was proposed here and isn't decided, or one is decided
 abbrev pub has_begun : Verdicts → Bool
@@ -55,6 +55,24 @@ first_ones (question ∷ questions) = question ∷ filter (λ other. not (other 
 -- the order of the decisions, once these records are read too
 abbrev pub order_with : Verdicts → List Record → List ℕ
 order_with verdicts records = verdicts.order.items ++ filter (is_open verdicts) (first_ones (decided_in records))
+
+-- where a member says what was proposed to it
+abbrev pub own_place : ℕ → ℕ → Place
+own_place me question = new_place question me 1 1
+
+-- whether the question was proposed to this member, by the records
+abbrev pub was_proposed : ℕ → ℕ → List Record → Bool
+was_proposed me question records = is_some (said records Initial (own_place me question))
+
+-- whether the question was proposed here and isn't decided
+abbrev pub waits : Verdicts → ℕ → Bool
+waits verdicts question = get_or verdicts.cells.items question 0 == 3
+
+-- the same, once these records are read too
+abbrev pub waits_with : ℕ → Verdicts → ℕ → List Record → Bool
+waits_with me verdicts question records =
+    is_none (first_of (verdict_at verdicts question) (decided_bit records question))
+    && (waits verdicts question || was_proposed me question records)
 
 -- of each question of an epoch they have the first decision among the records, in the order of these
 pub record SaysOf (questions : ℕ) (records : List Record) (verdicts : Verdicts) : Type 0 where

@@ -11,7 +11,7 @@ ghost use Rattle.epochs.specs.Asks.{heard_since, not_asked, not_for, standing};
 ghost use Rattle.epochs.specs.Opens.{IsDue, IsKept, IsKnown, IsMadeFor, IsMissed, MayRun, WasLeftOut, first_open, has_gone_quiet, least, runs, ticked};
 ghost use Rattle.epochs.specs.Parking.{place_of, waiting_elsewhere};
 ghost use Rattle.epochs.specs.Reports.{noted, readied, running_elsewhere, running_in};
-ghost use Rattle.epochs.specs.Verdicts.{IsUntouched, has_begun, is_partial, verdict_at};
+ghost use Rattle.epochs.specs.Verdicts.{IsUntouched, has_begun, has_open, verdict_at};
 ghost use Rattle.epochs.specs.declared.asks.TheConstants.{ASKS};
 ghost use Rattle.epochs.specs.declared.board.Doors.{Doors};
 ghost use Rattle.epochs.specs.declared.board.Stored.TheVariants.{Ahead, Decided, Far, Gone, Open};
@@ -103,11 +103,14 @@ impl State {
             then max self.old.newest (length self.old.verdicts.items) else self.old.newest)) }
         ensures undone { (one : ℕ) → Contains self.old.undone.items one →
             Contains self.new.undone.items one }
-        ensures open { OnOk result (is_partial verdicts ≡ true →
+        ensures open { OnOk result (has_open verdicts ≡ true →
             Contains self.new.undone.items (length self.old.verdicts.items)) }
         ensures left_out { OnOk result (has_begun verdicts ≡ true →
             (one : ℕ) → WasLeftOut self.old (length self.old.verdicts.items) one →
             Contains self.new.undone.items one) }
+        ensures only { OnOk result ((one : ℕ) → Contains self.new.undone.items one →
+            Contains self.old.undone.items one ⊎ (one ≡ length self.old.verdicts.items)
+            ⊎ WasLeftOut self.old (length self.old.verdicts.items) one) }
         ensures rest { self.new ≡ record self.old {
           newest = self.new.newest;
           changes = self.new.changes;
@@ -117,7 +120,7 @@ impl State {
     {
         let epoch = self.made();
         self.begin_if(verdicts.has_begun(), epoch)?;
-        self.call_if(verdicts.is_partial(), epoch)?;
+        self.call_if(verdicts.has_open(), epoch)?;
         self.verdicts.push(verdicts)?;
         Ok(())
     }
@@ -126,6 +129,8 @@ impl State {
     fn call_if(&mut self, is_open: bool, epoch: u64) -> Result<(), Memory>
         ensures called { OnOk result (is_open ≡ true → IsKept self.old epoch →
             Contains self.new.undone.items epoch) }
+        ensures only { (one : ℕ) → Contains self.new.undone.items one →
+            Contains self.old.undone.items one ⊎ (one ≡ epoch) }
         ensures undone { (one : ℕ) → Contains self.old.undone.items one →
             Contains self.new.undone.items one }
         ensures rest { self.new ≡ record self.old {

@@ -1,9 +1,10 @@
 //! The decisions of an epoch: begin at `Verdicts`.
 
-ghost use Rattle.std.specs.Prelude.{ℕ, ◌≡◌, ◌⊎◌, ◌<◌, ◌==◌, Bool, true, false, None, Some, [], ◌∷◌, ◌++◌, List, IfOk, IfSome, OnOk, cond, length, slice_get};
+ghost use Rattle.std.specs.Prelude.{ℕ, ◌≡◌, ◌≢◌, ◌⊎◌, ◌<◌, ◌==◌, ◌&&◌, Bool, true, false, None, Some, [], ◌∷◌, ◌++◌, List, IfOk, IfSome, OnOk, cond, get_or, length, slice_get};
+ghost use Rattle.std.specs.Option.{is_none};
 ghost use Rattle.std.specs.List.{list_any};
-ghost use Rattle.epochs.specs.Verdicts.{IsUntouched, SaysOf, decided_bit, first_of, has_begun, is_open, is_partial, order_with, verdict_at};
-ghost use Rattle.terms_prelude.specs.Terms.{Record};
+ghost use Rattle.epochs.specs.Verdicts.{IsUntouched, SaysOf, decided_bit, first_of, has_begun, is_open, has_open, order_with, own_place, verdict_at, waits, waits_with, was_proposed};
+ghost use Rattle.terms_prelude.specs.Terms.{Initial, Record, is_about};
 
 use std::alloc::Global;
 use terms::{Header, Kind, Memory, Record, Statement};
@@ -46,7 +47,10 @@ impl Verdicts {
         header: &Header,
         records: &[Record],
     ) -> Result<Verdicts, Memory>
-        ensures { IfOk result (SaysOf header.now.size.questions records.now) }
+        ensures says { IfOk result (SaysOf header.now.size.questions records.now) }
+        ensures waits { IfOk result (λ verdicts. (q : ℕ) → q < header.now.size.questions →
+            waits verdicts q ≡ (is_none (decided_bit records.now q)
+            && was_proposed header.now.me q records.now)) }
     {
         let mut verdicts = Verdicts::none(alloc, header.size().questions())?;
         for record in records {
@@ -77,9 +81,9 @@ impl Verdicts {
         self.is_undone() || self.order.len() > 0
     }
 
-    /// Returns `true` if some are decided, or none is, and some aren't.
-    pub(crate) fn is_partial(&self) -> bool
-        ensures { result ≡ is_partial self.now }
+    /// Returns `true` if a question isn't decided.
+    pub(crate) fn has_open(&self) -> bool
+        ensures { result ≡ has_open self.now }
     {
         self.order.len() < self.cells.len()
     }
@@ -118,6 +122,9 @@ impl Verdicts {
             ≡ first_of (verdict_at self.old q) (decided_bit (next ∷ later) q)) }
         ensures order { OnOk result ((later : List Record) →
             order_with self.new later ≡ order_with self.old (next ∷ later)) }
+        ensures waits { OnOk result
+            ((q : ℕ) (later : List Record) → q < length self.old.cells.items →
+            waits_with me self.new q later ≡ waits_with me self.old q (next ∷ later)) }
         ensures size { length self.new.cells.items ≡ length self.old.cells.items }
     {
         match next {
@@ -142,6 +149,8 @@ impl Verdicts {
             (cond (question == q) (Some bit) None)) }
         ensures order { OnOk result (self.new.order.items ≡ cond (is_open self.old question)
             (self.old.order.items ++ question ∷ []) self.old.order.items) }
+        ensures others { (q : ℕ) → q ≢ question →
+            get_or self.new.cells.items q 0 ≡ get_or self.old.cells.items q 0 }
         ensures size { length self.new.cells.items ≡ length self.old.cells.items }
     {
         if !self.is_open(question) {
@@ -165,18 +174,25 @@ impl Verdicts {
     fn propose(&mut self, question: u16)
         ensures order { self.new.order ≡ self.old.order }
         ensures kept { (q : ℕ) → verdict_at self.new q ≡ verdict_at self.old q }
+        ensures waits { question < length self.old.cells.items →
+            verdict_at self.old question ≡ None → waits self.new question ≡ true }
+        ensures others { (q : ℕ) → q ≢ question →
+            get_or self.new.cells.items q 0 ≡ get_or self.old.cells.items q 0 }
         ensures size { length self.new.cells.items ≡ length self.old.cells.items }
     {
+        if self.of(question).is_some() {
+            return;
+        }
         if let Some(cell) = self.cells.get_mut(usize::from(question)) {
-            if *cell == 0 {
-                *cell = 3;
-            }
+            *cell = 3;
         }
     }
 }
 
 /// Returns `true` if the member said by this that a bit was proposed to it.
-fn is_own_proposal(me: u8, said: Statement) -> bool {
+fn is_own_proposal(me: u8, said: Statement) -> bool
+    ensures { result ≡ is_about said Initial (own_place me said.place.question) }
+{
     let place = said.place();
     said.kind() == Kind::Initial && place.origin() == me && place.round() == 1 && place.step() == 1
 }

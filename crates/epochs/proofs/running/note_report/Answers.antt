@@ -1,4 +1,4 @@
-use Rattle.std.proofs.Common.{ℕ, Bool, ◌≡◌, ◌∙◌, ◌==◌, List, None, Some, refl, sym, ap}
+use Rattle.std.proofs.Common.{ℕ, Bool, ◌∙◌, ◌==◌, List, refl, sym, ap}
 use Rattle.std.specs.Option.{option_map}
 use Rattle.epochs.specs.declared.running.Running.{Running}
 use Rattle.epochs.specs.Reports.{noted, place_in}

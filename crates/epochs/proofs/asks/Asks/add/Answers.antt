@@ -1,4 +1,4 @@
-use Rattle.std.proofs.Common.{◌≡◌, ◌∙◌, ◌++◌, ◌∷◌, [], List, ℕ, Bool, not, ap, inr, rules, arith}
+use Rattle.std.proofs.Common.{◌∙◌, ◌++◌, ◌∷◌, [], List, ℕ, not, ap, inr, rules}
 use Rattle.chain.specs.declared.opening.Ask.{Ask}
 use Rattle.epochs.specs.Asking.{is_ask}
 use Rattle.epochs.proofs.Standing.{contains-pushed, filter-pushed}

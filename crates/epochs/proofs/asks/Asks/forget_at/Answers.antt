@@ -1,4 +1,4 @@
-use Rattle.std.proofs.Common.{sym, rules, arith}
+use Rattle.std.proofs.Common.{sym}
 use Rattle.epochs.proofs.Forgetting.{forgotten, kept}
 use Rattle.epochs.proofs.AskLemmas.{few-removed}
 use Rattle.epochs.proofs.asks.Asks.forget_at.Goals as goal

@@ -1,4 +1,4 @@
-use Rattle.std.proofs.Common.{rules, arith}
+use Rattle.std.proofs.Common.{rules}
 use Rattle.epochs.proofs.AskLemmas.{not_placed}
 use Rattle.epochs.proofs.asks.Asks.hear.Goals as goal
 

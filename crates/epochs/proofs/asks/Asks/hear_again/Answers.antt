@@ -1,4 +1,4 @@
-use Rattle.std.proofs.Common.{◌≡◌, Bool, not, ap, arith, rules}
+use Rattle.std.proofs.Common.{not, ap, rules}
 use Rattle.std.proofs.lemmas.List.Quantifiers.{position-Some}
 use Rattle.epochs.specs.Asking.{is_ask}
 use Rattle.epochs.proofs.Standing.{contains-heard, filter-heard}

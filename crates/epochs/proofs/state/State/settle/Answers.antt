@@ -1,7 +1,6 @@
-use Rattle.std.proofs.Common.{ℕ, ◌≡◌, ◌∙◌, ◌&&◌, Bool, false, not, sym, ap, subst, Result, Ok, Err, OnOk, arith}
+use Rattle.std.proofs.Common.{◌≡◌, ◌∙◌, ◌&&◌, Bool, false, not, sym, ap, subst, Result, Ok, Err, OnOk, arith}
 use Rattle.std.specs.List.{Contains}
 use Rattle.std.proofs.lemmas.Result.{on_ok_weaker}
-use Rattle.epochs.specs.Opens.{WasLeftOut}
 use Rattle.epochs.specs.declared.state.State.{State}
 use Rattle.epochs.proofs.Undone.{among, kept_alike, left_out_alike}
 use Rattle.epochs.proofs.state.State.settle.Goals.{then-not-report, else-not-report}

@@ -1,4 +1,4 @@
-use Rattle.std.proofs.Common.{ℕ, ◌≡◌, ◌∙◌, inl, inr, rules, subst, sym, ap}
+use Rattle.std.proofs.Common.{ℕ, ◌≡◌, inl, inr, rules, subst, sym, ap}
 use Rattle.std.specs.List.{Contains}
 use Rattle.std.specs.Global.{Vec}
 use Rattle.epochs.specs.declared.state.State.{State}
