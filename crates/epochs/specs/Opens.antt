@@ -1,5 +1,5 @@
 -- Which epochs run, and which are closed.
-use Rattle.std.specs.Prelude.{ℕ, ◌≡◌, ◌<◌, ◌≤◌, ◌==◌, Bool, List, [], ◌∷◌, false, length, map, min, slice_get, IfSome, if◌then◌else◌}
+use Rattle.std.specs.Prelude.{ℕ, ◌≡◌, ◌<◌, ◌≤◌, ◌==◌, ◌+◌, ◌%◌, ◌^◌, Bool, List, [], ◌∷◌, false, length, map, min, slice_get, IfSome, if◌then◌else◌}
 use Rattle.std.specs.List.{list_any}
 use Rattle.std.specs.Option.{option_map_or}
 use Rattle.chain.specs.Opening.{IsOpenEpoch}
@@ -18,6 +18,10 @@ pub record IsKnown (state : State) (known : Known) : Type 0 where
   pub newest : known.newest ≡ state.newest
   pub undone : known.undone.now ≡ state.undone.items
   pub asks : known.asks.now ≡ state.asks.list.items
+
+-- the number of changes after another one
+abbrev pub next_change : ℕ → ℕ
+next_change changes = (changes + 1) % 2 ^ 64
 
 -- the epoch's journal wasn't put away
 abbrev pub IsKept : State → ℕ → Type 0

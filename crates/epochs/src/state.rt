@@ -1,6 +1,6 @@
 //! The state that the switchboard guards: begin at `State`.
 
-ghost use Rattle.std.specs.Prelude.{ℕ, ◌≡◌, ◌≢◌, ◌⊎◌, ◌<◌, ◌≤◌, ◌==◌, ◌&&◌, ◌+◌, Bool, true, false, not, max, None, Some, [], ◌∷◌, ◌++◌, All, Contains, IfOk, IfSome, IsTrue, OnErr, OnOk, filter, drop, if◌then◌else◌, length, map, nat_le, nat_lt, slice_get, take};
+ghost use Rattle.std.specs.Prelude.{ℕ, ◌≡◌, ◌≢◌, ◌↔◌, ◌^◌, ◌⊎◌, ◌<◌, ◌≤◌, ◌==◌, ◌&&◌, ◌+◌, Bool, true, false, not, max, None, Some, [], ◌∷◌, ◌++◌, All, Contains, IfOk, IfSome, IsTrue, OnErr, OnOk, filter, drop, if◌then◌else◌, length, map, nat_le, nat_lt, slice_get, take};
 ghost use Rattle.std.specs.Borrow.{Bor};
 ghost use Rattle.std.specs.Option.{option_map, option_map_or};
 ghost use Rattle.chain.specs.Opening.{IsOpenEpoch};
@@ -8,12 +8,13 @@ ghost use Rattle.chain.specs.Slots.{chain_size};
 ghost use Rattle.chain.specs.declared.opening.Known.{Known};
 ghost use Rattle.epochs.specs.Asking.{HasFewAsks, asks_by, tells_next};
 ghost use Rattle.epochs.specs.Asks.{heard_since, not_asked, not_for, standing};
-ghost use Rattle.epochs.specs.Opens.{IsDue, IsKept, IsKnown, IsMadeFor, IsMissed, MayRun, WasLeftOut, first_open, has_gone_quiet, least, runs, ticked};
+ghost use Rattle.epochs.specs.Opens.{IsDue, IsKept, IsKnown, IsMadeFor, IsMissed, MayRun, WasLeftOut, first_open, has_gone_quiet, least, next_change, runs, ticked};
 ghost use Rattle.epochs.specs.Parking.{place_of, waiting_elsewhere};
 ghost use Rattle.epochs.specs.Reports.{noted, readied, running_elsewhere, running_in};
 ghost use Rattle.epochs.specs.Verdicts.{IsUntouched, has_begun, has_open, verdict_at};
 ghost use Rattle.epochs.specs.declared.asks.TheConstants.{ASKS};
 ghost use Rattle.epochs.specs.declared.board.Doors.{Doors};
+ghost use Rattle.epochs.specs.declared.verdicts.Verdicts.{Verdicts};
 ghost use Rattle.epochs.specs.declared.board.Stored.TheVariants.{Ahead, Decided, Far, Gone, Open};
 ghost use Rattle.epochs.specs.declared.state.Place.TheVariants as place;
 ghost use Rattle.epochs.specs.declared.state.TheConstants.{AHEAD};
@@ -153,6 +154,7 @@ impl State {
             ⊎ Contains (standing self.new.asks) (ask, self.old.asks.second)) }
         ensures others { not_asked ask (standing self.new.asks)
             ≡ not_asked ask (standing self.old.asks) }
+        ensures counted { self.new.changes ≡ next_change self.old.changes }
         ensures rest { self.new ≡ record self.old {
           asks = self.new.asks;
           changes = self.new.changes;
@@ -183,7 +185,9 @@ impl State {
     /// Returns an epoch that is to run and doesn't: the newest, the one in front of it, or one of
     /// those for which somebody asks.
     pub(crate) fn due(&self, chain: &Chain) -> Option<u64>
-        ensures { IfSome result (IsDue chain.now self.now) }
+        ensures due { IfSome result (IsDue chain.now self.now) }
+        ensures newest { (epoch : ℕ) → self.now.newest ≤ epoch → epoch ≤ self.now.newest + 1 →
+            epoch < 2 ^ 64 → IsDue chain.now self.now epoch → result ≢ None }
     {
         let front = self.newest.saturating_add(1);
         if self.is_due(chain, self.newest) {
@@ -230,7 +234,9 @@ impl State {
 
     /// Returns `true` if this epoch is to run, doesn't, and has room beside those that do.
     fn is_due(&self, chain: &Chain, epoch: u64) -> bool
-        ensures { IsTrue result → IsDue chain.now self.now epoch }
+        ensures due { IsTrue result → IsDue chain.now self.now epoch }
+        ensures newest { self.now.newest ≤ epoch → IsDue chain.now self.now epoch →
+            IsTrue result }
     {
         !self.runs(epoch)
             && self.is_to_run(chain, epoch)
@@ -240,7 +246,7 @@ impl State {
     /// Returns `true` if the epoch is to run, by the rules. One whose journal was put away never
     /// does.
     fn is_to_run(&self, chain: &Chain, epoch: u64) -> bool
-        ensures { IsTrue result → MayRun chain.now self.now epoch }
+        ensures { IsTrue result ↔ MayRun chain.now self.now epoch }
     {
         !self.is_gone(epoch) && chain.is_open(&self.known(), epoch)
     }
@@ -376,6 +382,7 @@ impl State {
             ≡ option_map readied (running_in self.old.running.items epoch) }
         ensures others { (other : ℕ) → other ≢ epoch → running_in self.new.running.items other
             ≡ running_in self.old.running.items other }
+        ensures counted { self.new.changes ≡ next_change self.old.changes }
         ensures rest { self.new ≡ record self.old {
           changes = self.new.changes;
           running = self.new.running;
@@ -568,6 +575,7 @@ impl State {
     pub(crate) fn park(&mut self, epoch: u64, is_link: bool, arrival: Arrival)
         ensures others { waiting_elsewhere epoch self.new.parked.items
             ≡ waiting_elsewhere epoch self.old.parked.items }
+        ensures counted { self.new.changes ≡ next_change self.old.changes }
         ensures rest { self.new ≡ record self.old {
           changes = self.new.changes;
           parked = self.new.parked;
@@ -818,6 +826,7 @@ impl State {
 
     /// Something has changed.
     pub(crate) fn change(&mut self)
+        ensures counted { self.new.changes ≡ next_change self.old.changes }
         ensures rest { self.new ≡ record self.old { changes = self.new.changes } }
     {
         self.changes = self.changes.wrapping_add(1);
@@ -825,8 +834,8 @@ impl State {
 
     /// Returns `true` if an epoch that runs is to end: by the rules it isn't open.
     pub(crate) fn is_over(&self, chain: &Chain, epoch: u64) -> bool
-        ensures { result ≡ false → (known : Known) → IsKnown self.now known →
-            IsOpenEpoch (chain_size chain.now) known epoch }
+        ensures { (known : Known) → IsKnown self.now known →
+            ((result ≡ false) ↔ IsOpenEpoch (chain_size chain.now) known epoch) }
     {
         !chain.is_open(&self.known(), epoch)
     }
@@ -868,6 +877,10 @@ impl State {
     /// Returns the question that was decided at this place in an epoch that doesn't run, and its
     /// bit.
     pub(crate) fn decided_at(&self, epoch: u64, place: u16) -> Option<(u16, bool)>
+        ensures known { (verdicts : Verdicts) (question : ℕ) (bit : Bool) →
+            slice_get self.now.verdicts.items epoch ≡ Some verdicts →
+            slice_get verdicts.order.items place ≡ Some question →
+            verdict_at verdicts question ≡ Some bit → result ≡ Some (question, bit) }
         ensures question { IfSome result (λ told. IfSome (slice_get self.now.verdicts.items epoch)
             (λ one. slice_get one.order.items place ≡ Some told.0)) }
         ensures bit { IfSome result (λ told. IfSome (slice_get self.now.verdicts.items epoch)
@@ -881,7 +894,11 @@ impl State {
 
     /// Returns what is known of a question of an epoch that doesn't run; none of one that does.
     pub(crate) fn stored(&self, epoch: u64, question: u16) -> Option<Stored>
-        ensures runs { result ≢ None → running_in self.now.running.items epoch ≡ None }
+        ensures runs { (result ≡ None) ↔ (running_in self.now.running.items epoch ≢ None) }
+        ensures known { (verdicts : Verdicts) (bit : Bool) →
+            slice_get self.now.verdicts.items epoch ≡ Some verdicts →
+            verdict_at verdicts question ≡ Some bit → result ≢ None →
+            result ≡ Some (Decided bit) }
         ensures decided { (bit : Bool) → result ≡ Some (Decided bit) →
             IfSome (slice_get self.now.verdicts.items epoch)
             (λ one. verdict_at one question ≡ Some bit) }

@@ -90,6 +90,9 @@ impl Verdicts {
 
     /// Returns the question that was decided at this place of the journal's decisions, and its bit.
     pub(crate) fn decided_at(&self, place: u16) -> Option<(u16, bool)>
+        ensures known { (question : ℕ) (bit : Bool) →
+            slice_get self.now.order.items place ≡ Some question →
+            verdict_at self.now question ≡ Some bit → result ≡ Some (question, bit) }
         ensures question { IfSome result
             (λ told. slice_get self.now.order.items place ≡ Some told.0) }
         ensures bit { IfSome result (λ told. verdict_at self.now told.0 ≡ Some told.1) }
