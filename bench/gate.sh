@@ -59,7 +59,7 @@ def sample(root, labels, taken):
         if pid not in found:
             continue
         key = pid, found[pid][1]
-        if key not in labels:
+        if not labels.get(key):  # it may not have begun its program when it was seen first
             labels[key] = of_parent or label(pid)
         taken[key] = found[pid][2]
         left += [(it, labels[key]) for it in children[pid]]
