@@ -7,3 +7,4 @@ pub mod Reporting
 pub mod Without
 pub mod Made
 pub mod Ordering
+pub mod WaitingOn

@@ -1,5 +1,5 @@
 -- The connections that wait for an epoch that doesn't run yet.
-use Rattle.std.specs.Prelude.{ℕ, ◌==◌, not, List, Option, filter, position}
+use Rattle.std.specs.Prelude.{ℕ, ◌≡◌, ◌==◌, false, not, All, List, Option, drop, filter, length, position, take}
 use Rattle.epochs.specs.declared.state.Parked.{Parked}
 
 -- the place of the first that waits for this epoch
@@ -9,3 +9,12 @@ place_of parked epoch = position (λ one. one.epoch == epoch) parked
 -- those that wait for other epochs
 abbrev pub waiting_elsewhere : ℕ → List Parked → List Parked
 waiting_elsewhere epoch parked = filter (λ one. not (one.epoch == epoch)) parked
+
+-- a client that waits for this epoch
+abbrev pub IsClientOf : ℕ → Parked → Type 0
+IsClientOf epoch one = (one.epoch ≡ epoch) × (one.is_link ≡ false)
+
+-- those that waited wait on, and behind them clients of this epoch alone
+pub record WaitOn (epoch : ℕ) (old new : List Parked) : Type 0 where
+  pub stay : take (length old) new ≡ old
+  pub came : All (IsClientOf epoch) (drop (length old) new)

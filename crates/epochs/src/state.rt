@@ -9,7 +9,7 @@ ghost use Rattle.chain.specs.declared.opening.Known.{Known};
 ghost use Rattle.epochs.specs.Asking.{HasFewAsks, asks_by, tells_next};
 ghost use Rattle.epochs.specs.Asks.{heard_since, not_asked, not_for, standing};
 ghost use Rattle.epochs.specs.Opens.{IsDue, IsKept, IsKnown, IsMadeFor, IsMissed, MayRun, WasLeftOut, first_open, has_gone_quiet, least, next_change, runs, ticked};
-ghost use Rattle.epochs.specs.Parking.{place_of, waiting_elsewhere};
+ghost use Rattle.epochs.specs.Parking.{WaitOn, place_of, waiting_elsewhere};
 ghost use Rattle.epochs.specs.Reports.{noted, readied, running_elsewhere, running_in};
 ghost use Rattle.epochs.specs.Verdicts.{IsUntouched, has_begun, has_open, verdict_at};
 ghost use Rattle.epochs.specs.declared.asks.TheConstants.{ASKS};
@@ -414,8 +414,7 @@ impl State {
         ensures others { running_elsewhere epoch self.new.running.items
             ≡ running_elsewhere epoch self.old.running.items }
         ensures asks { standing self.new.asks ≡ not_for epoch (standing self.old.asks) }
-        ensures waiting { waiting_elsewhere epoch self.new.parked.items
-            ≡ waiting_elsewhere epoch self.old.parked.items }
+        ensures waiting { WaitOn epoch self.old.parked.items self.new.parked.items }
         ensures undone { (other : ℕ) → other ≢ epoch → Contains self.old.undone.items other →
             Contains self.new.undone.items other }
         ensures open { IsKept self.new epoch → Contains self.old.undone.items epoch →
@@ -456,8 +455,7 @@ impl State {
         ensures ended { running_elsewhere epoch self.new.running.items ≡ self.new.running.items }
         ensures others { running_elsewhere epoch self.new.running.items
             ≡ running_elsewhere epoch self.old.running.items }
-        ensures waiting { waiting_elsewhere epoch self.new.parked.items
-            ≡ waiting_elsewhere epoch self.old.parked.items }
+        ensures waiting { WaitOn epoch self.old.parked.items self.new.parked.items }
         ensures undone { (other : ℕ) → other ≢ epoch → Contains self.old.undone.items other →
             Contains self.new.undone.items other }
         ensures open { IsKept self.old epoch → Contains self.old.undone.items epoch →
@@ -498,8 +496,7 @@ impl State {
         ensures ended { running_elsewhere epoch self.new.running.items ≡ self.new.running.items }
         ensures others { running_elsewhere epoch self.new.running.items
             ≡ running_elsewhere epoch self.old.running.items }
-        ensures waiting { waiting_elsewhere epoch self.new.parked.items
-            ≡ waiting_elsewhere epoch self.old.parked.items }
+        ensures waiting { WaitOn epoch self.old.parked.items self.new.parked.items }
         ensures undone { (one : ℕ) → Contains self.old.undone.items one →
             Contains self.new.undone.items one }
         ensures only { (one : ℕ) → Contains self.new.undone.items one →
@@ -533,10 +530,9 @@ impl State {
         }
     }
 
-    /// These clients wait for the epoch. One for which it can't be called is closed.
+    /// These clients wait for the epoch. If memory for that is refused, the client is closed.
     fn park_all(&mut self, epoch: u64, clients: Vec<Arrival>)
-        ensures waiting { waiting_elsewhere epoch self.new.parked.items
-            ≡ waiting_elsewhere epoch self.old.parked.items }
+        ensures waiting { WaitOn epoch self.old.parked.items self.new.parked.items }
         ensures undone { (one : ℕ) → Contains self.old.undone.items one →
             Contains self.new.undone.items one }
         ensures only { (one : ℕ) → Contains self.new.undone.items one →
@@ -552,10 +548,10 @@ impl State {
         }
     }
 
-    /// The client waits for the epoch, which isn't done then. If memory is refused, it is closed.
+    /// The client waits for the epoch, which isn't done then. If memory for that is refused, the
+    /// client is closed.
     fn call_and_park(&mut self, epoch: u64, client: Arrival)
-        ensures waiting { waiting_elsewhere epoch self.new.parked.items
-            ≡ waiting_elsewhere epoch self.old.parked.items }
+        ensures waiting { WaitOn epoch self.old.parked.items self.new.parked.items }
         ensures undone { (one : ℕ) → Contains self.old.undone.items one →
             Contains self.new.undone.items one }
         ensures only { (one : ℕ) → Contains self.new.undone.items one →
@@ -573,8 +569,9 @@ impl State {
 
     /// Parks a connection until its epoch runs. It is closed if too many wait.
     pub(crate) fn park(&mut self, epoch: u64, is_link: bool, arrival: Arrival)
-        ensures others { waiting_elsewhere epoch self.new.parked.items
-            ≡ waiting_elsewhere epoch self.old.parked.items }
+        ensures parked { (self.new.parked.items ≡ self.old.parked.items)
+            ⊎ (self.new.parked.items ≡ self.old.parked.items
+            ++ record { epoch = epoch; is_link = is_link; arrival = arrival } ∷ []) }
         ensures counted { self.new.changes ≡ next_change self.old.changes }
         ensures rest { self.new ≡ record self.old {
           changes = self.new.changes;
