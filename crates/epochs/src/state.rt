@@ -17,7 +17,7 @@ ghost use Rattle.epochs.specs.declared.board.Doors.{Doors};
 ghost use Rattle.epochs.specs.declared.verdicts.Verdicts.{Verdicts};
 ghost use Rattle.epochs.specs.declared.board.Stored.TheVariants.{Ahead, Decided, Far, Gone, Open};
 ghost use Rattle.epochs.specs.declared.state.Place.TheVariants as place;
-ghost use Rattle.epochs.specs.declared.state.TheConstants.{AHEAD};
+ghost use Rattle.epochs.specs.declared.state.TheConstants.{AHEAD, PARKED};
 ghost use Rattle.epochs.specs.declared.running.TheConstants.{QUIET};
 
 use crate::asks::Asks;
@@ -572,6 +572,8 @@ impl State {
         ensures parked { (self.new.parked.items ≡ self.old.parked.items)
             ⊎ (self.new.parked.items ≡ self.old.parked.items
             ++ record { epoch = epoch; is_link = is_link; arrival = arrival } ∷ []) }
+        ensures full { PARKED ≤ length self.old.parked.items →
+            self.new.parked.items ≡ self.old.parked.items }
         ensures counted { self.new.changes ≡ next_change self.old.changes }
         ensures rest { self.new ≡ record self.old {
           changes = self.new.changes;
