@@ -538,6 +538,62 @@ def half_decided_epochs_end():
         expect(after == before, f"epochs run again that {closed} say are closed: {before}, {after}")
 
 
+def late_decisions_are_told_once():
+    """A follower is told what is decided late in an epoch that it passed, and nothing again; while there is nothing, an empty line."""
+    with chain(27180, starts=1, n=1, t=0, questions=2) as it:
+        bits, told, beats = drawn(6), [], []
+
+        def wait(what, holds):
+            end = time.monotonic() + 40
+            while not holds():
+                expect(time.monotonic() < end, f"{what}: {told}, {it.log(0)}")
+                time.sleep(0.1)
+
+        def decides(slots):
+            decide([it.desk(0)], bits, slots)
+
+        decides([0, 2, 3, 4])
+        wait("epochs 0 and 1 don't end", lambda: all(f"epoch {epoch} end" in it.log(0) for epoch in (0, 1)))
+        # The client is at the desk of epoch 2 when it begins to follow, and stays there.
+        follower = it.desk(0)
+        follower.ask("ASK 4")
+        follower.stream.sendall(b"FOLLOW 0\n")
+
+        def listen():
+            with contextlib.suppress(OSError):
+                for line in map(bytes.decode, follower.lines):
+                    (beats if line == "\n" else told).append(line)
+
+        threading.Thread(target=listen, daemon=True).start()
+        decides([1])
+        lines = {slot: f"DECIDED {slot} {bits[slot]}\n" for slot in range(6)}
+        wait("slot 1 isn't told", lambda: lines[1] in told)
+        time.sleep(4)
+        decides([5])
+        wait("slot 5 isn't told", lambda: lines[5] in told)
+        wait("no empty line comes", lambda: beats)
+        expect(told == [lines[slot] for slot in (0, 2, 3, 4, 1, 5)], f"{told}")
+
+
+def an_await_ends_with_its_epoch():
+    """Who waits for a slot far ahead is answered when the epoch at whose desk it waits ends, and keeps its connection."""
+    with chain(27190, starts=1, n=1, t=0, questions=2) as it:
+        bits = drawn(10)
+        desk = it.desk(0)
+        begun = time.monotonic()
+        desk.connect()
+        desk.stream.sendall(b"AWAIT 30\n")
+        time.sleep(0.3)
+        decide([it.desk(0)], bits, range(8))
+        line = desk.lines.readline()
+        took = time.monotonic() - begun
+        expect(line == b"UNDECIDED\n" and took < 9, f"{line} after {took:.1f} s: {it.log(0)}")
+        desk.stream.sendall(b"ASK 7\nAWAIT 9\n")
+        expect(desk.lines.readline() == f"DECIDED {bits[7]}\n".encode(), "another reply behind it")
+        decide([it.desk(0)], bits, [8, 9])
+        expect(desk.lines.readline() == f"DECIDED {bits[9]}\n".encode(), "another reply to the next AWAIT")
+
+
 def missed_epochs_are_made_up_for():
     """A member that was down for eleven epochs, and to which slots of the newest are proposed as soon as it is back, learns all that was
     decided meanwhile, and calls no epoch closed before."""
@@ -669,10 +725,11 @@ def main():
     checks = [slots_over_many_epochs, dumps_name_their_clusters, restarts, comeback, followers, quiet, ends, put_away,
               put_away_while_it_runs, epochs_of_made_up_desks, closed_epochs, new_cluster, liar_and_kills]
     # These wait for epochs to end, beside the others.
-    waiting = [asks_for_closed_epochs, half_decided_epochs_end, missed_epochs_are_made_up_for]
+    waiting = [asks_for_closed_epochs, half_decided_epochs_end, late_decisions_are_told_once, an_await_ends_with_its_epoch,
+               missed_epochs_are_made_up_for]
     if LONG:
         checks, waiting = [lambda: liar_and_kills(100_000, 200, questions=1024, width=256), thousand_epochs], []
-    with concurrent.futures.ThreadPoolExecutor(3) as pool:
+    with concurrent.futures.ThreadPoolExecutor(4) as pool:
         beside = [pool.submit(play, check) for check in waiting]
         failed = sum(play(check) for check in checks) + sum(it.result() for it in beside)
     print(f"{len(checks) + len(waiting) - failed} passed, {failed} failed")

@@ -1,4 +1,5 @@
 //! A client of a chain that follows decisions: begin at `follow`.
+ghost use Rattle.std.specs.Prelude.{◌≡◌, ◌≤◌, ◌+◌, ◌^◌, IfSome, IsNone};
 
 use crate::epoch::InChain;
 use crate::life::Life;
@@ -54,12 +55,12 @@ pub(crate) fn follow<D: Disk, J: Life, R: Machine>(
     unreachable!()
 }
 
-/// A follower: the number of the decision that it is told next, and those of epochs that it passed
-/// and in which questions were open.
+/// A follower: the number of the decision that it is told next, and the epochs that it passed with
+/// questions open.
 #[derive(Drop)]
 struct SlotFollower {
     next: u64,
-    left: Vec<u64>,
+    left: Vec<Left>,
     /// The second in which it was told something last.
     told: u64,
 }
@@ -73,15 +74,16 @@ impl SlotFollower {
         chain: &InChain,
         socket: &mut TcpStream,
     ) -> Option<Turn> {
-        if let Some(decided) = decision_at(rt, shared, chain, self.next) {
+        let next = chain.board.chain().slot_of(self.next);
+        if let Some(decided) = decision_at(rt, shared, chain, (next.epoch, next.question)) {
             tell(shared, chain, socket, decided)?;
             self.next = self.next.checked_add(1)?;
             self.told = shared.hub.seconds();
             return Some(Turn::Goes);
         }
-        let epoch = chain.board.chain().slot_of(self.next).epoch;
+        let epoch = next.epoch;
         if chain.board.is_passed(rt, epoch) {
-            return self.pass(chain, epoch);
+            return self.pass(chain, next);
         }
         let is_elsewhere = epoch != chain.epoch && chain.board.runs(rt, epoch);
         if is_elsewhere && !chain.board.is_over(rt, epoch) {
@@ -90,16 +92,20 @@ impl SlotFollower {
         Some(Turn::Waits)
     }
 
-    /// Passes the epoch of the next number: decisions that come late are told too.
-    fn pass(&mut self, chain: &InChain, epoch: u64) -> Option<Turn> {
+    /// Passes the epoch of the next place: decisions that come late are told too.
+    fn pass(&mut self, chain: &InChain, next: Slot) -> Option<Turn> {
         if self.left.len() >= LEFT {
             self.left.remove(0);
         }
-        let _forgotten = self.left.push(self.next).is_err();
         let first = Slot {
-            epoch: epoch.checked_add(1)?,
+            epoch: next.epoch.checked_add(1)?,
             question: 0,
         };
+        let left = Left {
+            epoch: next.epoch,
+            place: next.question,
+        };
+        let _forgotten = self.left.push(left).is_err();
         self.next = chain.board.chain().number_of(first)?;
         Some(Turn::Goes)
     }
@@ -114,9 +120,9 @@ impl SlotFollower {
         socket: &mut TcpStream,
     ) -> Option<()> {
         for left in self.left.iter_mut() {
-            if let Some(decided) = decision_at(rt, shared, chain, *left) {
+            if let Some(decided) = decision_at(rt, shared, chain, (left.epoch, left.place)) {
                 tell(shared, chain, socket, decided)?;
-                *left = left.checked_add(1)?;
+                left.pass_on()?;
                 self.told = shared.hub.seconds();
             }
         }
@@ -165,6 +171,26 @@ impl SlotFollower {
     }
 }
 
+/// An epoch that was passed with questions open.
+#[derive(Clone, Copy, Drop)]
+struct Left {
+    epoch: u64,
+    /// The place in its journal, counted in decisions, of the next one that is told.
+    place: u16,
+}
+
+impl Left {
+    /// Goes on by a place of the same epoch, so that no decision of another is told for it.
+    fn pass_on(&mut self) -> Option<()>
+        ensures epoch { self.new.epoch ≡ self.old.epoch }
+        ensures place { IfSome result (λ _. self.new.place ≡ 1 + self.old.place) }
+        ensures none { IsNone result → 2 ^ 16 ≤ 1 + self.old.place }
+    {
+        self.place = self.place.checked_add(1)?;
+        Some(())
+    }
+}
+
 /// The end of a turn of a follower.
 enum Turn {
     /// The follower was told a decision, or passed an epoch.
@@ -175,24 +201,21 @@ enum Turn {
     Elsewhere(u64),
 }
 
-/// Returns the decision of that number: one of this epoch, or of one that doesn't run.
+/// Returns the decision at a place of an epoch's journal, of this epoch or of one that doesn't run.
 fn decision_at<D: Disk, J: Life, R: Machine>(
     rt: &R,
     shared: &Shared<D, J>,
     chain: &InChain,
-    number: u64,
+    at: (u64, u16),
 ) -> Option<(Slot, bool)> {
-    let Slot {
-        epoch,
-        question: at,
-    } = chain.board.chain().slot_of(number);
+    let (epoch, place) = at;
     let (question, bit) = if epoch == chain.epoch {
-        let decision = shared.hub.decision(rt, u64::from(at))?;
+        let decision = shared.hub.decision(rt, u64::from(place))?;
         (decision.question, decision.bit)
     } else if chain.board.runs(rt, epoch) {
         return None;
     } else {
-        chain.board.decided_at(rt, epoch, at)?
+        chain.board.decided_at(rt, epoch, place)?
     };
     Some((Slot { epoch, question }, bit))
 }

@@ -335,11 +335,12 @@ impl<D: Disk, J: Life, R: Wait> SlotLines<'_, D, J, R> {
     }
 
     /// Waits for a change, after which the line is looked at anew. After ten seconds it is
-    /// answered.
+    /// answered, and also if this epoch ends: then the client is to leave for the newest.
     fn wait_on(&mut self) -> Result<bool, StreamFault> {
         let now = self.shared.hub.seconds();
         let begun = *self.waits.get_or_insert(now);
-        if now.saturating_sub(begun) < EPOCH_LIMIT && !self.chain.board.is_ended() {
+        let is_over = self.chain.board.is_over(self.rt, self.chain.epoch);
+        if now.saturating_sub(begun) < EPOCH_LIMIT && !is_over {
             self.chain.board.await_change(self.rt);
             return Ok(true);
         }
@@ -349,7 +350,10 @@ impl<D: Disk, J: Life, R: Wait> SlotLines<'_, D, J, R> {
         }
         let length = self.said.line_end().unwrap_or(self.said.bytes().len());
         self.said.drop_front(length.saturating_add(1));
-        Ok(true)
+        if is_over {
+            self.away = Some(Away::ToNewest);
+        }
+        Ok(!is_over)
     }
 
     /// A second has passed in silence: `false` if the client is to leave.
