@@ -355,7 +355,9 @@ def events_come_without_a_gap(folder, port):
             stream.close()
         with gateways(cluster, port=port + 10) as other:
             found += differs("a life of its own", other.json("/v1/questions")["life"] != moment["life"], True)
-            found += differs("what was decided before", soon(lambda: other.json("/v1/questions?from=0&to=11")["states"]), "0101010101-")
+            states = lambda: other.json("/v1/questions?from=0&to=11")["states"]
+            soon(lambda: states() == "0101010101-")
+            found += differs("what was decided before", states(), "0101010101-")
         return found
 
 
@@ -417,7 +419,7 @@ def what_is_refused_is_named(folder, port):
             found += differs("what it tells", closed.json("/v1/members")["propose"], "never")
             with open(f"{folder}/gateway.log", encoding="utf-8") as file:
                 found += differs("what its operator is told", file.read().count("bracha: no proposals are taken"), 1)
-            found += differs("what it answers", closed.json("/v1/questions/1")["state"], "decided")
+            found += differs("what it answers", soon(lambda: closed.json("/v1/questions/1")["state"] == "decided"), True)
         with gateways(cluster, "--token", f"{folder}/token", host="0.0.0.0", port=port + 11) as opened:
             found += differs("at any address with it", opened.propose(2, 1, "?wait=20", TOKEN)[0], 200)
             found += differs("without it there", opened.propose(3, 1), (401, {"error": "token"}))
@@ -487,13 +489,19 @@ def samples(text):
     return values, kinds
 
 
+def all_is_told(members):
+    """Whether the first member has told 30 decisions, the last one has lied in each, and all are linked."""
+    linked = all(it["in"] >= 3 and it["out"] >= 3 for it in members)
+    return linked and members[0]["decided"] == 30 and len(members[3]["contradicts"]) == 30
+
+
 @check
 def metrics_are_right(folder, port):
     """The numbers for Prometheus are those of the cluster, and promtool has nothing against them."""
     with clusters(folder, port) as cluster, gateways(cluster) as gateway:
         soon(lambda: gateway.json("/ready") == {"ready": True})
         found = decide(gateway, 0, 30)
-        soon(lambda: gateway.json("/v1/members")["members"][0]["decided"] == 30)
+        soon(lambda: all_is_told(gateway.json("/v1/members")["members"]))
         status, heads, body = gateway.ask("GET", "/metrics")
         text = body.decode()
         found += differs("the type", (status, heads["content-type"]), (200, "text/plain; version=0.0.4; charset=utf-8"))
