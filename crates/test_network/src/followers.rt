@@ -6,36 +6,52 @@
 //! `left`, from which on the client's input has ended. The answer is what the last call said, and
 //! all that was written, with `|` for each end of a line.
 
-use desk::{Follower, Outlet, Telling};
+use crate::texts::{add, lines_text, nothing};
+use desk::{FollowEnd, Follower, Outlet, Telling};
 use disk::MemDisk;
 use links::StreamFault;
 use node::{Hub, Naming};
 use std::alloc::Global;
 use std::sync::Wait;
 
-/// Plays the row of a follower from that number on.
+/// Plays the row of a follower.
 pub fn told<J: Naming, R: Wait>(
     rt: &R,
     alloc: Global,
     hub: &Hub<MemDisk, J>,
-    number: u64,
-    steps: &[&str],
+    words: &[&str],
 ) -> Option<String> {
-    let mut follower = Follower::new(hub, number);
+    let [number, steps @ ..] = words else {
+        return None;
+    };
+    let number = number.parse().ok()?;
     let mut stream = Taking {
         output: Vec::new(alloc),
         most: None,
         has_left: false,
     };
-    let mut said = String::new(alloc);
+    let mut text = follow(rt, alloc, (hub, number), &mut stream, steps)?;
+    let written = lines_text(alloc, &stream.output)?;
+    add(&mut text, " ", written.as_str())?;
+    Some(text)
+}
+
+/// Tells a follower from that number on, and returns what came of it last.
+fn follow<J: Naming, R: Wait>(
+    rt: &R,
+    alloc: Global,
+    (hub, number): (&Hub<MemDisk, J>, u64),
+    stream: &mut Taking,
+    steps: &[&str],
+) -> Option<String> {
+    let mut follower = Follower::new(hub, number);
+    let mut last = None;
     for step in steps {
-        if prepare(rt, hub, &mut stream, step)? {
-            said = tell(rt, alloc, hub, &mut follower, &mut stream)?;
+        if prepare(rt, hub, stream, step)? {
+            last = Some(follower.tell(rt, hub, stream));
         }
     }
-    let text = text_of(alloc, &stream.output)?;
-    let space = if text.is_empty() { "" } else { " " };
-    format!(in alloc; "{said}{space}{text}").ok()
+    said_text(alloc, last)
 }
 
 /// Prepares the stream and the hub as the step says, and returns `true` if the follower is to be
@@ -73,17 +89,21 @@ fn pass<J: Naming, R: Wait>(rt: &R, hub: &Hub<MemDisk, J>, seconds: u64) {
     }
 }
 
-/// Tells the follower once, if the step says so, and returns what came of it.
-fn tell<J: Naming, R: Wait>(
-    rt: &R,
-    alloc: Global,
-    hub: &Hub<MemDisk, J>,
-    follower: &mut Follower,
-    stream: &mut Taking,
-) -> Option<String> {
-    match follower.tell(rt, hub, stream) {
-        Ok(telling) => format!(in alloc; "{}", word_of(telling)).ok(),
-        Err(end) => format!(in alloc; "{end:?}").ok(),
+/// Returns what came of the last call, if there was one.
+fn said_text(alloc: Global, last: Option<Result<Telling, FollowEnd>>) -> Option<String> {
+    match last {
+        Some(Ok(telling)) => word_of(telling).to_string(alloc).ok(),
+        Some(Err(end)) => format!(in alloc; "{end:?}").ok(),
+        None => nothing(alloc),
+    }
+}
+
+/// Returns the word for what a follower was told.
+fn word_of(telling: Telling) -> &'static str {
+    match telling {
+        Telling::Nothing => "Nothing",
+        Telling::Lines => "Lines",
+        Telling::Part => "Part",
     }
 }
 
@@ -113,22 +133,4 @@ impl Outlet for Taking {
     fn has_ended(&mut self) -> bool {
         self.has_left
     }
-}
-
-/// Returns the word for what a follower was told.
-fn word_of(telling: Telling) -> &'static str {
-    match telling {
-        Telling::Nothing => "Nothing",
-        Telling::Lines => "Lines",
-        Telling::Part => "Part",
-    }
-}
-
-/// Returns what was written, with `|` for each end of a line.
-fn text_of(alloc: Global, bytes: &[u8]) -> Option<String> {
-    let mut text = Vec::new(alloc);
-    for byte in bytes {
-        text.push(if *byte == b'\n' { b'|' } else { *byte }).ok()?;
-    }
-    String::from_utf8(text).ok()
 }

@@ -6,8 +6,10 @@ mod books;
 mod desks;
 mod followers;
 mod logs;
+mod places;
 mod sessions;
 mod streams;
+mod texts;
 
 pub use desks::Desk;
 pub use logs::Logs;

@@ -12,36 +12,28 @@
 //! `queue` begins an empty one, `put COUNT` puts so many decisions in, and `drain` answers how many
 //! there are, how many are missed, and the first and the last.
 //!
-//! `crowd MOST` begins one of so many followers: `comes` answers whether one more may follow, and
-//! at `goes` one goes. `quota` begins one of two: `enter` answers whether one more may enter, and
-//! at `leave` one leaves. `slots COUNT` are those of a member that lets so many clients in: `slot
-//! SECOND` takes one, `heard SECOND SLOT` and `left SLOT` are what comes of a client. `standing` is
-//! that of a link that is written, from which nothing was read; `reads` and `writes` answer how far
-//! it has come then, and whether the next write brings it up. `tosser BYTE RECORDS PLACE` is the
-//! first toss of a life that begins with so many records, at a place, of a seed of that byte 32
-//! times.
+//! `tosser BYTE RECORDS PLACE` is the first toss of a life that begins with so many records, at a
+//! place, of a seed of that byte 32 times. Rows of `src/places.rt` are answered too.
 
+use crate::places::Places;
+use crate::texts::{add, flag_text, nothing, number_of, version_of};
 use links::LinkEnd;
 use rounds::Tosser;
 use running::{
-    Caller, Crowd, DialFault, Difference, GivenSlot, LogEvent, Queue, Quota, Refusal, RefusalCount,
-    Refusals, Slots, Standing, tosser_for,
+    Caller, DialFault, Difference, LogEvent, Queue, Refusal, RefusalCount, Refusals, tosser_for,
 };
 use std::alloc::Global;
 use std::net::IpAddr;
 use test_words::words_of;
 use wire::{Version, WireFault};
 
-/// A log's parts, a quota, and slots.
+/// A log's parts, and the places of peers and clients.
 #[derive(Drop)]
 pub struct Logs {
     alloc: Global,
     refusals: Refusals,
     queue: Queue,
-    quota: Quota<2>,
-    crowd: Crowd,
-    slots: Slots,
-    standing: Standing,
+    places: Places,
 }
 
 impl Logs {
@@ -51,182 +43,138 @@ impl Logs {
             alloc,
             refusals: Refusals::new(),
             queue: Queue::new(alloc),
-            quota: Quota::new(),
-            crowd: Crowd::new(0),
-            slots: Slots::new(32),
-            standing: Standing::Greeting,
+            places: Places::new(),
         }
     }
 
     /// Plays a row.
     pub fn told(&mut self, action: &str) -> Option<String> {
-        let words = words_of(self.alloc, action)?;
-        match words.as_slice() {
-            ["event", words @ ..] => line_of(self.alloc, event_of(words)?),
-            ["refused", cause, number, count, caller @ ..] => {
-                let (refusal, caller) = (refusal_of(cause, number)?, caller_of(caller)?);
-                let count = count.parse().ok()?;
-                let event = LogEvent::Refused(RefusalCount {
-                    refusal,
-                    caller,
-                    count,
-                });
-                line_of(self.alloc, event)
-            }
-            ["closed", host, slot, silent] => {
-                let (slot, silent) = (slot.parse().ok()?, silent.parse().ok()?);
-                let host = host.parse().ok();
-                line_of(self.alloc, LogEvent::ClientClosed { host, slot, silent })
-            }
-            ["refusals"] => {
-                self.refusals = Refusals::new();
-                self.nothing()
-            }
-            ["count", now, cause, number, member] => {
-                self.count(now, refusal_of(cause, number)?, member)
-            }
-            ["tosser", byte, records, place] => {
-                let (records, place) = (records.parse().ok()?, place.parse().ok()?);
-                let toss = tosser_for([byte.parse().ok()?; 32], records, place).toss();
-                format!(in self.alloc; "{:016x}", toss.0).ok()
-            }
-            ["due", now] => self.due(now.parse().ok()?),
-            ["queue"] => {
-                self.queue = Queue::new(self.alloc);
-                self.nothing()
-            }
-            ["put", count] => self.put(count.parse().ok()?),
-            ["drain"] => queue_text(self.alloc, &mut self.queue),
-            ["empty"] => format!(in self.alloc; "{}", self.queue.is_empty()).ok(),
-            words => self.seat(words),
+        self.row(&words_of(self.alloc, action)?)
+    }
+
+    /// Plays a row of words.
+    fn row(&mut self, words: &[&str]) -> Option<String> {
+        let (word, rest) = words.split_first()?;
+        match *word {
+            "event" => line_of(self.alloc, event_of(rest)?),
+            "refused" => line_of(self.alloc, refused_of(rest)?),
+            "closed" => line_of(self.alloc, closed_of(rest)?),
+            "refusals" => self.begin_refusals(),
+            "count" => self.count(rest),
+            "due" => self.due(rest),
+            "tosser" => tosser_text(self.alloc, rest),
+            "queue" => self.begin_queue(),
+            "put" => self.put(rest),
+            "drain" => queue_text(self.alloc, &mut self.queue),
+            "empty" => flag_text(self.alloc, self.queue.is_empty()),
+            _ => self.places.told(self.alloc, words),
         }
     }
 
-    /// A refusal comes.
-    fn count(&mut self, now: &str, refusal: Refusal, member: &str) -> Option<String> {
-        let caller = caller_of(&[member])?;
-        let (left, line) = self.refusals.count(now.parse().ok()?, refusal, caller);
-        let (left, line) = (count_text(self.alloc, left)?, count_text(self.alloc, line)?);
-        format!(in self.alloc; "{left}, {line}").ok()
+    /// Begins with no refusals.
+    fn begin_refusals(&mut self) -> Option<String> {
+        self.refusals = Refusals::new();
+        nothing(self.alloc)
     }
 
-    /// Returns what is due at a second.
-    fn due(&mut self, now: u64) -> Option<String> {
+    /// Counts a refusal, and returns what is told then.
+    fn count(&mut self, words: &[&str]) -> Option<String> {
+        let [now, cause, number, member] = words else {
+            return None;
+        };
+        let refusal = refusal_of(cause, number)?;
+        let caller = caller_of(&[member])?;
+        let (left, line) = self.refusals.count(now.parse().ok()?, refusal, caller);
+        counts_text(self.alloc, left, line)
+    }
+
+    /// Returns the counts that are due at a second.
+    fn due(&mut self, words: &[&str]) -> Option<String> {
+        let [now] = words else {
+            return None;
+        };
+        let now = now.parse().ok()?;
         let mut queue = Queue::new(self.alloc);
         self.refusals.tell_due(now, &mut queue);
-        counts_text(self.alloc, &mut queue)
+        due_text(self.alloc, &mut queue)
+    }
+
+    /// Begins with an empty queue.
+    fn begin_queue(&mut self) -> Option<String> {
+        self.queue = Queue::new(self.alloc);
+        nothing(self.alloc)
     }
 
     /// Puts so many decisions into the queue.
-    fn put(&mut self, count: u16) -> Option<String> {
-        for question in 0..count {
+    fn put(&mut self, words: &[&str]) -> Option<String> {
+        let [count] = words else {
+            return None;
+        };
+        for question in 0..count.parse().ok()? {
             self.queue.put(LogEvent::Decided(question, true));
         }
-        self.nothing()
-    }
-
-    /// Plays a row of the quota and the slots.
-    fn seat(&mut self, words: &[&str]) -> Option<String> {
-        match words {
-            ["quota"] => self.quota = Quota::new(),
-            ["leave"] => self.quota.leave(),
-            ["crowd", most] => self.crowd = Crowd::new(most.parse().ok()?),
-            ["goes"] => self.crowd.leave(),
-            ["slots", clients] => self.slots = Slots::new(clients.parse().ok()?),
-            ["heard", now, slot] => self.slots.hear(slot.parse().ok()?, now.parse().ok()?),
-            ["left", slot] => self.slots.put(slot.parse().ok()?),
-            ["enter"] => {
-                let enters = self.quota.enter();
-                return format!(in self.alloc; "{enters}").ok();
-            }
-            ["comes"] => {
-                let comes = self.crowd.enter();
-                return format!(in self.alloc; "{comes}").ok();
-            }
-            ["slot", now] => return self.slot(now.parse().ok()?),
-            ["standing"] => self.standing = Standing::Greeting,
-            ["reads"] => return self.stands(self.standing.read()),
-            ["writes"] => return self.stands(self.standing.written()),
-            _ => return None,
-        }
-        self.nothing()
-    }
-
-    /// Takes a slot.
-    fn slot(&mut self, now: u64) -> Option<String> {
-        match self.slots.take(now) {
-            Some(GivenSlot::Free(slot)) => format!(in self.alloc; "free {slot}").ok(),
-            Some(GivenSlot::InPlaceOf(slot, silent)) => {
-                format!(in self.alloc; "instead {slot} silent {silent}").ok()
-            }
-            None => format!(in self.alloc; "none").ok(),
-        }
-    }
-
-    /// Returns how far the link has come.
-    fn stands(&mut self, standing: Standing) -> Option<String> {
-        self.standing = standing;
-        format!(in self.alloc; "{standing:?} {}", standing.comes_up()).ok()
-    }
-
-    /// Returns what is said of a row that answers nothing.
-    fn nothing(&self) -> Option<String> {
-        Some(String::new(self.alloc))
+        nothing(self.alloc)
     }
 }
 
-/// An event's line.
+/// Returns an event's line.
 fn line_of(alloc: Global, event: LogEvent) -> Option<String> {
     format!(in alloc; "{event}").ok()
 }
 
-/// The event of these words.
+/// Returns the event of these words.
 fn event_of(words: &[&str]) -> Option<LogEvent> {
-    match words {
-        ["Ready", member] => Some(LogEvent::Ready(member.parse().ok()?)),
-        ["Decided", question, bit] => {
-            Some(LogEvent::Decided(question.parse().ok()?, *bit == "1"))
-        }
-        ["Stopped"] => Some(LogEvent::Stopped),
-        ["Missed", count] => Some(LogEvent::Missed(count.parse().ok()?)),
-        ["End"] => Some(LogEvent::End),
-        words => link_event(words),
+    let (name, rest) = words.split_first()?;
+    match *name {
+        "Ready" => Some(LogEvent::Ready(number_of(rest)?)),
+        "Decided" => decided_of(rest),
+        "Stopped" => Some(LogEvent::Stopped),
+        "Missed" => Some(LogEvent::Missed(number_of(rest)?)),
+        "End" => Some(LogEvent::End),
+        _ => link_event_of(name, rest),
     }
 }
 
-/// The event of a link of these words.
-fn link_event(words: &[&str]) -> Option<LogEvent> {
-    match words {
-        ["LinkUp", peer, version] => {
-            Some(LogEvent::LinkUp(peer.parse().ok()?, version_of(version)?))
-        }
-        ["LinkUpTo", peer, version] => {
-            Some(LogEvent::LinkUpTo(peer.parse().ok()?, version_of(version)?))
-        }
-        ["LinkUpAhead", peer, ahead, version] => {
-            let (peer, ahead) = (peer.parse().ok()?, ahead.parse().ok()?);
-            Some(LogEvent::LinkUpAhead(peer, ahead, version_of(version)?))
-        }
-        ["LinkDown", peer, end @ ..] => {
-            Some(LogEvent::LinkDown(peer.parse().ok()?, end_of(end)?))
-        }
-        ["LinkDownTo", peer, end @ ..] => {
-            Some(LogEvent::LinkDownTo(peer.parse().ok()?, end_of(end)?))
-        }
+/// Returns the event of a decision.
+fn decided_of(words: &[&str]) -> Option<LogEvent> {
+    let [question, bit] = words else {
+        return None;
+    };
+    Some(LogEvent::Decided(question.parse().ok()?, *bit == "1"))
+}
+
+/// Returns the event of a link, of that name.
+fn link_event_of(name: &str, words: &[&str]) -> Option<LogEvent> {
+    let (peer, rest) = words.split_first()?;
+    let peer = peer.parse().ok()?;
+    match name {
+        "LinkUp" => Some(LogEvent::LinkUp(peer, version_in(rest)?)),
+        "LinkUpTo" => Some(LogEvent::LinkUpTo(peer, version_in(rest)?)),
+        "LinkUpAhead" => ahead_of(peer, rest),
+        "LinkDown" => Some(LogEvent::LinkDown(peer, end_of(rest)?)),
+        "LinkDownTo" => Some(LogEvent::LinkDownTo(peer, end_of(rest)?)),
         _ => None,
     }
 }
 
-/// The version of that number.
-fn version_of(word: &str) -> Option<Version> {
-    match word {
-        "1" => Some(Version::One),
-        "2" => Some(Version::Two),
+/// Returns the version that is the only word.
+fn version_in(words: &[&str]) -> Option<Version> {
+    match words {
+        [version] => version_of(version),
         _ => None,
     }
 }
 
-/// The end of a link of these words.
+/// Returns the event of a link whose peer has heard more than this member's journal holds.
+fn ahead_of(peer: u8, words: &[&str]) -> Option<LogEvent> {
+    let [ahead, version] = words else {
+        return None;
+    };
+    let (ahead, version) = (ahead.parse().ok()?, version_of(version)?);
+    Some(LogEvent::LinkUpAhead(peer, ahead, version))
+}
+
+/// Returns the end of a link of these words.
 fn end_of(words: &[&str]) -> Option<LinkEnd> {
     match words {
         ["Lost"] => Some(LinkEnd::Lost),
@@ -239,7 +187,31 @@ fn end_of(words: &[&str]) -> Option<LinkEnd> {
     }
 }
 
-/// The refusal of a cause and a host, or by a peer.
+/// Returns the event of refusals of these words.
+fn refused_of(words: &[&str]) -> Option<LogEvent> {
+    let [cause, number, count, caller @ ..] = words else {
+        return None;
+    };
+    Some(LogEvent::Refused(RefusalCount {
+        refusal: refusal_of(cause, number)?,
+        caller: caller_of(caller)?,
+        count: count.parse().ok()?,
+    }))
+}
+
+/// Returns the event of a client that was closed for another.
+fn closed_of(words: &[&str]) -> Option<LogEvent> {
+    let [host, slot, silent] = words else {
+        return None;
+    };
+    Some(LogEvent::ClientClosed {
+        host: host.parse().ok(),
+        slot: slot.parse().ok()?,
+        silent: silent.parse().ok()?,
+    })
+}
+
+/// Returns the refusal of a cause and a host, or by a peer.
 fn refusal_of(cause: &str, number: &str) -> Option<Refusal> {
     let number = number.parse().ok()?;
     let host = IpAddr::from([10, 0, 0, number]);
@@ -256,7 +228,7 @@ fn refusal_of(cause: &str, number: &str) -> Option<Refusal> {
     }
 }
 
-/// Why a member can't be reached, by one word.
+/// Returns why a member can't be reached, by one word.
 fn dial_fault_of(word: &str) -> Option<DialFault> {
     match word {
         "unheard" => Some(DialFault::Refused),
@@ -267,25 +239,109 @@ fn dial_fault_of(word: &str) -> Option<DialFault> {
     }
 }
 
-/// The caller of these words: none within where they say that there is none.
+/// Returns the caller of these words: none within if they say that there is none.
 fn caller_of(words: &[&str]) -> Option<Option<Caller>> {
-    let (member, differs) = match words {
-        ["none"] => return Some(None),
-        [member] => (member, None),
-        [member, "cluster", number] => (member, Some(Difference::Cluster(number.parse().ok()?))),
-        [member, "to", number] => (member, Some(Difference::To(number.parse().ok()?))),
-        [member, "host"] => (member, Some(Difference::Host)),
-        [member, "version", number] => (member, Some(Difference::Version(number.parse().ok()?))),
-        [member, "size", n, t, questions] => {
-            let (n, t, questions) = (n.parse().ok()?, t.parse().ok()?, questions.parse().ok()?);
-            (member, Some(Difference::Size { n, t, questions }))
-        }
-        _ => return None,
-    };
-    Some(Some(Caller {
+    match words {
+        ["none"] => Some(None),
+        [member] => Some(Some(caller(member, None)?)),
+        [member, differs @ ..] => Some(Some(caller(member, Some(difference_of(differs)?))?)),
+        [] => None,
+    }
+}
+
+/// Returns a caller with the number of its member.
+fn caller(member: &str, differs: Option<Difference>) -> Option<Caller> {
+    Some(Caller {
         member: member.parse().ok()?,
         differs,
-    }))
+    })
+}
+
+/// Returns in what a caller differs.
+fn difference_of(words: &[&str]) -> Option<Difference> {
+    let (word, rest) = words.split_first()?;
+    match *word {
+        "cluster" => Some(Difference::Cluster(number_of(rest)?)),
+        "to" => Some(Difference::To(number_of(rest)?)),
+        "host" => Some(Difference::Host),
+        "version" => Some(Difference::Version(number_of(rest)?)),
+        "size" => size_of(rest),
+        _ => None,
+    }
+}
+
+/// Returns the difference of a size.
+fn size_of(words: &[&str]) -> Option<Difference> {
+    let [n, t, questions] = words else {
+        return None;
+    };
+    Some(Difference::Size {
+        n: n.parse().ok()?,
+        t: t.parse().ok()?,
+        questions: questions.parse().ok()?,
+    })
+}
+
+/// Returns what is told of two refusals.
+fn counts_text(
+    alloc: Global,
+    left: Option<RefusalCount>,
+    line: Option<RefusalCount>,
+) -> Option<String> {
+    let mut text = count_text(alloc, left)?;
+    let line = count_text(alloc, line)?;
+    add(&mut text, ", ", line.as_str())?;
+    Some(text)
+}
+
+/// Returns what is told of a refusal, in words: its cause, the host's last number or the peer's,
+/// the member and the count.
+fn count_text(alloc: Global, told: Option<RefusalCount>) -> Option<String> {
+    let Some(told) = told else {
+        return format!(in alloc; "-").ok();
+    };
+    let (member, count) = (told.caller?.member, told.count);
+    match told.refusal {
+        Refusal::By(peer) => format!(in alloc; "by {peer} {member} {count}").ok(),
+        Refusal::From(IpAddr::V4(host), end) => {
+            let [_, _, _, last] = host.octets();
+            format!(in alloc; "{end} {last} {member} {count}").ok()
+        }
+        _ => None,
+    }
+}
+
+/// Returns the counts of refusals in a queue.
+fn due_text(alloc: Global, queue: &mut Queue) -> Option<String> {
+    let (events, _) = queue.drain(alloc);
+    let mut text = String::new(alloc);
+    for event in &events {
+        let count = format!(in alloc; "{}", count_of(event)?).ok()?;
+        add(&mut text, " ", count.as_str())?;
+    }
+    Some(text)
+}
+
+/// Returns the count of an event of refusals.
+fn count_of(event: &LogEvent) -> Option<u64> {
+    match event {
+        LogEvent::Refused(told) => Some(told.count),
+        _ => None,
+    }
+}
+
+/// Returns the first toss of a life, at a place.
+fn tosser_text(alloc: Global, words: &[&str]) -> Option<String> {
+    let [byte, records, place] = words else {
+        return None;
+    };
+    let (byte, records, place) = (
+        byte.parse().ok()?,
+        records.parse().ok()?,
+        place.parse().ok()?,
+    );
+    let toss = tosser_for([byte; 32], records, place).toss();
+    format!(in alloc; "{:016x}", toss.0).ok()
 }
 
 /// Returns what a queue has, and how many are missed.
@@ -298,36 +354,4 @@ fn queue_text(alloc: Global, queue: &mut Queue) -> Option<String> {
         }
         _ => format!(in alloc; "{count} missed {missed}").ok(),
     }
-}
-
-/// Returns what is told of a refusal, in words: its cause, the host's last number or the peer's,
-/// the member and the count.
-fn count_text(alloc: Global, told: Option<RefusalCount>) -> Option<String> {
-    let Some(told) = told else {
-        return format!(in alloc; "-").ok();
-    };
-    let member = told.caller?.member;
-    match told.refusal {
-        Refusal::By(peer) => format!(in alloc; "by {peer} {member} {}", told.count).ok(),
-        Refusal::From(IpAddr::V4(host), end) => {
-            let [_, _, _, last] = host.octets();
-            format!(in alloc; "{end} {last} {member} {}", told.count).ok()
-        }
-        _ => None,
-    }
-}
-
-/// The counts of refusals in a queue.
-fn counts_text(alloc: Global, queue: &mut Queue) -> Option<String> {
-    let (events, _) = queue.drain(alloc);
-    let mut text = String::new(alloc);
-    for event in &events {
-        let LogEvent::Refused(told) = event else {
-            return None;
-        };
-        let space = if text.is_empty() { "" } else { " " };
-        text.push_str(format!(in alloc; "{space}{}", told.count).ok()?.as_str())
-            .ok()?;
-    }
-    Some(text)
 }

@@ -31,21 +31,22 @@ ghost use Rattle.member.specs.Memory.{memory_disk};
 ghost use Rattle.member.specs.Sound.{IsSound};
 ghost use Rattle.member.specs.Readers.{member_header, member_saved, MemberStandsFor};
 
-use crate::streams::{Scant, prepare};
+use crate::books::said_at;
+use crate::streams::{Scant, prepare, prepares};
+use crate::texts::{add, heard_text, lines_text, nothing, version_of};
 use crate::{books, followers};
-use desk::{Desk, Turns, serve};
+use desk::{Desk, DeskEnd, Turns, serve};
 use disk::{Disk, MemDisk};
 use links::{OpenGate, greet, read_link, write_link};
 use member::Member;
-use node::{Board, Book, Entry, Hub, Naming, NewBoard, Rack, Seat, close};
-use rounds::{Toss, Tosser};
+use node::{Book, Entry, Hub, Naming, NewBoard, Rack, Seat, close};
+use rounds::{ChaChaTosser, Toss, Tosser};
 use running::tossers_of;
 use std::alloc::Global;
 use std::marker::Brand;
-use std::mem::replace;
 use std::sync::Wait;
 use std::time::Clock;
-use terms::{Header, Record};
+use terms::Header;
 use test_words::{bytes_of, header_of, records_text, words_of};
 use wire::Version;
 
@@ -71,34 +72,46 @@ impl Sessions {
 
     /// Plays a row.
     pub fn told<R: Wait + Clock>(&mut self, rt: &R, action: &str) -> Option<String> {
-        match words_of(self.alloc, action)?.as_slice() {
-            ["size", n, t, questions, "me", me] => {
-                self.begin(header_of(n, t, questions, me)?, None)
-            }
-            ["size", n, t, questions, "me", me, "passes", calls] => {
-                let calls = calls.parse().ok()?;
-                self.begin(header_of(n, t, questions, me)?, Some(calls))
-            }
-            ["size", n, t, questions, "me", me, "file", digits] => {
-                let bytes = bytes_of(self.alloc, digits)?;
-                self.begin(header_of(n, t, questions, me)?, None)?;
-                self.file.extend_from_slice(&bytes).ok()?;
-                nothing(self.alloc)
-            }
-            ["tossers", byte] => {
-                let beginning = self.beginning?;
-                tossers_text(self.alloc, (&beginning, &self.file), byte.parse().ok()?)
-            }
+        let words = words_of(self.alloc, action)?;
+        match words.as_slice() {
+            ["size", rest @ ..] => self.size(rest),
+            ["tossers", rest @ ..] => self.tossers(rest),
             _ => self.go_on(rt, action),
         }
     }
 
+    /// Begins with another member, as the words say.
+    fn size(&mut self, words: &[&str]) -> Option<String> {
+        let [n, t, questions, "me", me, rest @ ..] = words else {
+            return None;
+        };
+        let header = header_of(n, t, questions, me)?;
+        match rest {
+            [] => self.begin(header, None),
+            ["passes", calls] => self.begin(header, Some(calls.parse().ok()?)),
+            ["file", digits] => {
+                self.begin(header, None);
+                self.file = bytes_of(self.alloc, digits)?;
+            }
+            _ => return None,
+        }
+        nothing(self.alloc)
+    }
+
     /// Begins with another member.
-    fn begin(&mut self, header: Header, passes: Option<u64>) -> Option<String> {
+    fn begin(&mut self, header: Header, passes: Option<u64>) {
         self.beginning = Some(Beginning { header, passes });
         self.file.clear();
         self.rows.clear();
-        nothing(self.alloc)
+    }
+
+    /// Returns the tossers of the member's life.
+    fn tossers(&self, words: &[&str]) -> Option<String> {
+        let [byte] = words else {
+            return None;
+        };
+        let (beginning, byte) = (self.beginning?, byte.parse().ok()?);
+        tossers_text(self.alloc, (&beginning, &self.file), byte)
     }
 
     /// Plays a row that isn't the first.
@@ -108,7 +121,7 @@ impl Sessions {
         if matches!(ending, Ending::Told) {
             self.rows.push(action.to_string(alloc).ok()?).ok()?;
         }
-        if prepare(alloc, &mut Scant::new(alloc), action).is_some() {
+        if prepares(alloc, action) {
             return nothing(alloc);
         }
         let beginning = self.beginning?;
@@ -116,18 +129,24 @@ impl Sessions {
     }
 }
 
-/// The tossers of a member's life: how many there are, and the first toss of the last one, of links
-/// and of the desk.
+/// Returns the tossers of a member's life: how many there are, and the first toss of the last one,
+/// of links and of the desk.
 fn tossers_text(alloc: Global, (beginning, file): (&Beginning, &[u8]), byte: u8) -> Option<String> {
     let member = start(alloc, beginning, file)?;
-    let Ok(mut tossers) = tossers_of(alloc, [byte; 32], &member) else {
-        return None;
-    };
-    let (links, slots) = (tossers.links.len(), tossers.desk.len());
-    let (link, slot) = match (tossers.links.last_mut(), tossers.desk.last_mut()) {
-        (Some(link), Some(slot)) => (link.toss(), slot.toss()),
-        _ => return None,
-    };
+    match tossers_of(alloc, [byte; 32], &member) {
+        Ok(mut tossers) => last_tosses(alloc, &mut tossers.links, &mut tossers.desk),
+        Err(_) => None,
+    }
+}
+
+/// Returns the number of tossers and the first toss of the last one, of links and of the desk.
+fn last_tosses(
+    alloc: Global,
+    links: &mut [ChaChaTosser],
+    desk: &mut [ChaChaTosser],
+) -> Option<String> {
+    let (link, slot) = (links.last_mut()?.toss(), desk.last_mut()?.toss());
+    let (links, slots) = (links.len(), desk.len());
     format!(in alloc; "{links} {:016x} {slots} {:016x}", link.0, slot.0).ok()
 }
 
@@ -205,14 +224,29 @@ fn play_at<J: Naming, R: Wait + Clock>(
     let (hub, seats) = open::<J>(alloc, member, board)?;
     let rack = Rack::new(seats);
     let answer = play_all(rt, alloc, (&hub, &rack), rows)?;
-    let mut seats = rack.into_seats();
     match ending {
-        Ending::Told => return Some(answer),
-        Ending::Fits => {}
-        Ending::Lacks => {
-            let _missing = seats.pop();
-        }
+        Ending::Told => Some(answer),
+        Ending::Fits => fits_text(alloc, hub, rack.into_seats()),
+        Ending::Lacks => lacks_text(alloc, hub, rack.into_seats()),
     }
+}
+
+/// Returns whether all seats fit but the last, which is missing.
+fn lacks_text<J: Naming>(
+    alloc: Global,
+    hub: Hub<MemDisk, J>,
+    mut seats: Vec<Seat<J>>,
+) -> Option<String> {
+    let _missing = seats.pop();
+    fits_text(alloc, hub, seats)
+}
+
+/// Returns whether the seats fit.
+fn fits_text<J: Naming>(
+    alloc: Global,
+    hub: Hub<MemDisk, J>,
+    seats: Vec<Seat<J>>,
+) -> Option<String> {
     let fits = close(hub, seats).is_ok();
     format!(in alloc; "{fits}").ok()
 }
@@ -254,12 +288,35 @@ fn play<J: Naming, R: Wait + Clock>(
     if prepare(alloc, stream, row).is_some() {
         return nothing(alloc);
     }
-    let words = words_of(alloc, row)?;
-    answers(rt, alloc, at, stream, &words)
+    answer(rt, alloc, at, stream, &words_of(alloc, row)?)
 }
 
-/// Returns what a row answers that isn't of the next stream, which it takes where it is a session.
-fn answers<J: Naming, R: Wait + Clock>(
+/// Returns what a row answers that isn't of the next stream, which it takes if it is a session.
+fn answer<J: Naming, R: Wait + Clock>(
+    rt: &R,
+    alloc: Global,
+    (hub, rack): (&Hub<MemDisk, J>, &Rack<J>),
+    stream: &mut Scant,
+    words: &[&str],
+) -> Option<String> {
+    let (word, rest) = words.split_first()?;
+    match *word {
+        "greet" | "read" | "write" | "serve" => {
+            let told = session(rt, alloc, (hub, rack), stream, words);
+            *stream = Scant::new(alloc);
+            told
+        }
+        "fill" => fills(rt, alloc, hub, rest),
+        "hears" => hears(rt, alloc, (hub, rack), rest),
+        "stop" => stop(rt, alloc, hub),
+        "follows" => followers::told(rt, alloc, hub, rest),
+        "status" | "records" | "history" => looks(rt, alloc, hub, word),
+        _ => books::told(rt, alloc, (hub, rack), words),
+    }
+}
+
+/// Plays a session over the stream.
+fn session<J: Naming, R: Wait + Clock>(
     rt: &R,
     alloc: Global,
     (hub, rack): (&Hub<MemDisk, J>, &Rack<J>),
@@ -267,56 +324,32 @@ fn answers<J: Naming, R: Wait + Clock>(
     words: &[&str],
 ) -> Option<String> {
     match words {
-        ["greet"] => {
-            let taken = replace(stream, Scant::new(alloc));
-            greets(alloc, &hub.header(), taken)
-        }
-        ["read", peer, version] => {
-            let taken = replace(stream, Scant::new(alloc));
-            let (peer, version) = (peer.parse().ok()?, version_of(version)?);
-            reads(rt, alloc, (hub, rack), peer, version, taken)
-        }
-        ["write", peer, version] => {
-            let taken = replace(stream, Scant::new(alloc));
-            let (peer, version) = (peer.parse().ok()?, version_of(version)?);
-            writes(rt, alloc, hub, peer, version, taken)
-        }
-        ["serve"] => {
-            let taken = replace(stream, Scant::new(alloc));
-            serves(rt, alloc, hub, taken)
-        }
-        ["fill", count] => {
-            fills(rt, hub, count.parse().ok()?)?;
-            nothing(alloc)
-        }
-        ["hears", count] => {
-            hears(rt, (hub, rack), count.parse().ok()?)?;
-            nothing(alloc)
-        }
-        ["stop"] => {
-            hub.stop(rt);
-            nothing(alloc)
-        }
-        ["follows", number, steps @ ..] => {
-            followers::told(rt, alloc, hub, number.parse().ok()?, steps)
-        }
-        _ => match books::told(rt, alloc, (hub, rack), words) {
-            Some(told) => Some(told),
-            None => looks(rt, alloc, hub, words),
-        },
+        ["greet"] => greets(alloc, &hub.header(), stream),
+        ["read", link @ ..] => reads(rt, alloc, (hub, rack), stream, link_of(link)?),
+        ["write", link @ ..] => writes(rt, alloc, hub, stream, link_of(link)?),
+        ["serve"] => serves(rt, alloc, hub, stream),
+        _ => None,
     }
 }
 
-/// The session of a greeting.
-fn greets(alloc: Global, header: &Header, mut stream: Scant) -> Option<String> {
-    let how = match greet(alloc, &mut stream, header) {
-        Ok((from, version)) => format!(in alloc; "{from} {}", version_number(version)).ok()?,
-        Err(end) => format!(in alloc; "{end}").ok()?,
+/// Returns the peer of a link and its version.
+fn link_of(words: &[&str]) -> Option<(u8, Version)> {
+    let [peer, version] = words else {
+        return None;
     };
-    ended(alloc, how, &stream)
+    Some((peer.parse().ok()?, version_of(version)?))
 }
 
-/// The number of a version.
+/// Plays the session of a greeting.
+fn greets(alloc: Global, header: &Header, stream: &mut Scant) -> Option<String> {
+    let how = match greet(alloc, stream, header) {
+        Ok((from, version)) => format!(in alloc; "{from} {}", version_number(version)),
+        Err(end) => format!(in alloc; "{end}"),
+    };
+    ended(alloc, how.ok()?, stream)
+}
+
+/// Returns the number of a version.
 fn version_number(version: Version) -> u8 {
     match version {
         Version::One => 1,
@@ -324,23 +357,13 @@ fn version_number(version: Version) -> u8 {
     }
 }
 
-/// The version of that number.
-fn version_of(word: &str) -> Option<Version> {
-    match word {
-        "1" => Some(Version::One),
-        "2" => Some(Version::Two),
-        _ => None,
-    }
-}
-
-/// The session of a link from a peer, whose seat is put back.
+/// Plays the session of a link from a peer, whose seat is put back.
 fn reads<J: Naming, R: Wait + Clock>(
     rt: &R,
     alloc: Global,
     (hub, rack): (&Hub<MemDisk, J>, &Rack<J>),
-    peer: u8,
-    version: Version,
-    mut stream: Scant,
+    stream: &mut Scant,
+    (peer, version): (u8, Version),
 ) -> Option<String> {
     let seat = rack.take(rt, peer)?;
     let mut tosser = Counting {
@@ -351,30 +374,27 @@ fn reads<J: Naming, R: Wait + Clock>(
         alloc,
         hub,
         seat,
-        &mut stream,
+        stream,
         version,
         &OpenGate,
         &mut tosser,
     );
     let next = seat.next();
     rack.put(rt, seat);
-    let how = format!(in alloc; "{end} {next}").ok()?;
-    ended(alloc, how, &stream)
+    ended(alloc, format!(in alloc; "{end} {next}").ok()?, stream)
 }
 
-/// The session of a link to a peer.
+/// Plays the session of a link to a peer.
 fn writes<J: Naming, R: Wait>(
     rt: &R,
     alloc: Global,
     hub: &Hub<MemDisk, J>,
-    peer: u8,
-    version: Version,
-    mut stream: Scant,
+    stream: &mut Scant,
+    (peer, version): (u8, Version),
 ) -> Option<String> {
     hub.shut(rt);
-    let (end, is_welcome) = write_link(rt, alloc, hub, peer, &mut stream, version, &OpenGate);
-    let how = format!(in alloc; "{end} {is_welcome}").ok()?;
-    ended(alloc, how, &stream)
+    let (end, is_welcome) = write_link(rt, alloc, hub, peer, stream, version, &OpenGate);
+    ended(alloc, format!(in alloc; "{end} {is_welcome}").ok()?, stream)
 }
 
 /// Returns how a session ended and what comes with that, and behind it what was written, whether it
@@ -384,9 +404,15 @@ fn ended(alloc: Global, how: String, scant: &Scant) -> Option<String> {
     let written = hex::encode(alloc, stream.output()).ok()?;
     let space = if written.is_empty() { "" } else { " " };
     let open = if stream.is_closed() { "" } else { " open" };
-    match stream.left().len() {
-        0 => format!(in alloc; "{how}{space}{written}{open}").ok(),
-        left => format!(in alloc; "{how}{space}{written}{open} left {left}").ok(),
+    let left = left_text(alloc, stream.left().len())?;
+    format!(in alloc; "{how}{space}{written}{open}{left}").ok()
+}
+
+/// Returns how many bytes weren't read, if any weren't.
+fn left_text(alloc: Global, left: usize) -> Option<String> {
+    match left {
+        0 => nothing(alloc),
+        left => format!(in alloc; " left {left}").ok(),
     }
 }
 
@@ -409,26 +435,30 @@ fn open<J: Naming>(
     }
 }
 
-/// A client's session.
+/// Plays a client's session.
 fn serves<J: Naming, R: Wait + Clock>(
     rt: &R,
     alloc: Global,
     hub: &Hub<MemDisk, J>,
-    mut stream: Scant,
+    stream: &mut Scant,
 ) -> Option<String> {
-    let board: &Board = hub.board();
-    let mut pass = board.pass().ok()?;
-    let mut tosser = Counting { last: 9000 };
+    let end = serve_all(rt, hub, stream)?;
+    let mut text = format!(in alloc; "{end:?}").ok()?;
+    let replies = lines_text(alloc, stream.inner.output())?;
+    add(&mut text, " ", replies.as_str())?;
+    Some(text)
+}
+
+/// Serves a client, and returns why its session ended.
+fn serve_all<J: Naming, R: Wait + Clock>(
+    rt: &R,
+    hub: &Hub<MemDisk, J>,
+    stream: &mut Scant,
+) -> Option<DeskEnd> {
+    let mut pass = hub.board().pass().ok()?;
     let turns = Turns::new();
     let desk = Desk { hub, turns: &turns };
-    let end = serve(rt, desk, &mut pass, &mut tosser, &mut stream);
-    let mut text = Vec::new(alloc);
-    for byte in stream.inner.output() {
-        text.push(if *byte == b'\n' { b'|' } else { *byte }).ok()?;
-    }
-    let text = String::from_utf8(text).ok()?;
-    let space = if text.is_empty() { "" } else { " " };
-    format!(in alloc; "{end:?}{space}{text}").ok()
+    Some(serve(rt, desk, &mut pass, &mut Counting { last: 9000 }, stream))
 }
 
 /// A board for so many questions.
@@ -452,7 +482,21 @@ impl Tosser for Counting {
 }
 
 /// Proposes 0 and 1 in turn on so many questions.
-fn fills<J: Naming, R: Wait>(rt: &R, hub: &Hub<MemDisk, J>, count: u16) -> Option<()> {
+fn fills<J: Naming, R: Wait>(
+    rt: &R,
+    alloc: Global,
+    hub: &Hub<MemDisk, J>,
+    words: &[&str],
+) -> Option<String> {
+    let [count] = words else {
+        return None;
+    };
+    fill(rt, hub, count.parse().ok()?)?;
+    nothing(alloc)
+}
+
+/// Proposes 0 and 1 in turn on so many questions.
+fn fill<J: Naming, R: Wait>(rt: &R, hub: &Hub<MemDisk, J>, count: u16) -> Option<()> {
     let mut book = hub.lock(rt);
     for question in 0..count {
         book.propose(question, question % 2 == 1, Toss(0)).ok()?;
@@ -461,73 +505,87 @@ fn fills<J: Naming, R: Wait>(rt: &R, hub: &Hub<MemDisk, J>, count: u16) -> Optio
     Some(())
 }
 
-/// Nothing is answered.
-fn nothing(alloc: Global) -> Option<String> {
-    Some(String::new(alloc))
-}
-
 /// The member hears so much of what it said.
 fn hears<J: Naming, R: Wait>(
     rt: &R,
+    alloc: Global,
     (hub, rack): (&Hub<MemDisk, J>, &Rack<J>),
+    words: &[&str],
+) -> Option<String> {
+    let [count] = words else {
+        return None;
+    };
+    let count = count.parse().ok()?;
+    let mut seat = rack.take(rt, hub.header().me())?;
+    hear(rt, hub, &mut seat, count)?;
+    rack.put(rt, seat);
+    nothing(alloc)
+}
+
+/// The member hears so much of what it said.
+fn hear<J: Naming, R: Wait>(
+    rt: &R,
+    hub: &Hub<MemDisk, J>,
+    seat: &mut Seat<J>,
     count: u64,
 ) -> Option<()> {
-    let mut seat = rack.take(rt, hub.header().me())?;
     for number in 0..count {
-        let mut book = hub.lock(rt);
-        let items = book.pull(number, 1).ok()?;
-        if let [item] = items.as_slice() {
-            book.apply(&mut seat, &item.statement(), Toss(0)).ok()?;
+        if let Some(said) = said_at(rt, hub, number) {
+            let mut book = hub.lock(rt);
+            book.apply(seat, &said, Toss(0)).ok()?;
             hub.post(rt, &book);
         }
     }
-    rack.put(rt, seat);
     Some(())
 }
 
-/// Returns what is answered of the member: none where the words ask nothing of it.
+/// Stops the member.
+fn stop<J: Naming, R: Wait>(rt: &R, alloc: Global, hub: &Hub<MemDisk, J>) -> Option<String> {
+    hub.stop(rt);
+    nothing(alloc)
+}
+
+/// Returns what is answered of the member.
 fn looks<J: Naming, R: Wait>(
     rt: &R,
     alloc: Global,
     hub: &Hub<MemDisk, J>,
-    words: &[&str],
+    what: &str,
 ) -> Option<String> {
     let book = hub.lock(rt);
-    match words {
-        ["status"] => match book.status() {
-            Some((said, decided)) => format!(in alloc; "{said} {decided}").ok(),
-            None => format!(in alloc; "stopped").ok(),
-        },
-        ["records"] => records_text(alloc, "", book.records()).ok(),
-        ["history"] => history_text(alloc, &book),
-        _ => None,
+    match what {
+        "status" => status_text(alloc, book.status()),
+        "records" => records_text(alloc, "", book.records()).ok(),
+        _ => history_text(alloc, &book),
     }
 }
 
-/// The texts of all events.
+/// Returns how many statements and decisions there are, if the member isn't stopped.
+fn status_text(alloc: Global, status: Option<(u64, u16)>) -> Option<String> {
+    match status {
+        Some((said, decided)) => format!(in alloc; "{said} {decided}").ok(),
+        None => format!(in alloc; "stopped").ok(),
+    }
+}
+
+/// Returns the texts of all events.
 fn history_text<J: Naming>(alloc: Global, book: &Book<MemDisk, J>) -> Option<String> {
     let mut text = String::new(alloc);
     for at in 0..book.events() {
-        if at > 0 {
-            text.push_str(", ").ok()?;
-        }
-        let entry = book.event(at)?;
-        text.push_str(entry_text(alloc, &entry)?.as_str()).ok()?;
+        let entry = entry_text(alloc, &book.event(at)?)?;
+        add(&mut text, ", ", entry.as_str())?;
     }
     Some(text)
 }
 
-/// The text of an event.
+/// Returns the text of an event.
 fn entry_text(alloc: Global, entry: &Entry) -> Option<String> {
     match entry {
         Entry::Heard {
             from,
             statement,
             toss,
-        } => {
-            let said = records_text(alloc, "", &[Record::Said(*statement)]).ok()?;
-            format!(in alloc; "{from} {said} {}", toss.0).ok()
-        }
+        } => heard_text(alloc, *from, *statement, *toss),
         Entry::Proposed {
             question,
             bit,

@@ -53,43 +53,75 @@ impl Stream for Scant {
     }
 }
 
-/// Prepares the next stream: none where the row says nothing of it.
+/// Returns `true` if the row prepares the next stream.
+pub fn prepares(alloc: Global, row: &str) -> bool {
+    prepare(alloc, &mut Scant::new(alloc), row).is_some()
+}
+
+/// Prepares the next stream: none if the row says nothing of it.
 pub fn prepare(alloc: Global, scant: &mut Scant, row: &str) -> Option<()> {
-    if let Some(line) = row.strip_prefix("line ") {
-        let mut bytes = Vec::from_slice(alloc, line.as_bytes()).ok()?;
-        bytes.push(b'\n').ok()?;
-        return scant.inner.give(&bytes).ok();
-    }
-    let words = words_of(alloc, row)?;
-    match limit(scant, &words) {
-        Some(()) => Some(()),
-        None => give(alloc, &mut scant.inner, &words),
+    match row.strip_prefix("line ") {
+        Some(line) => give_line(alloc, &mut scant.inner, line),
+        None => prepare_by(alloc, scant, &words_of(alloc, row)?),
     }
 }
 
-/// Limits the next stream as the words say: none where they say nothing of it.
-fn limit(scant: &mut Scant, words: &[&str]) -> Option<()> {
-    match words {
-        ["take", count] => scant.inner.take_at_most(count.parse().ok()?),
-        ["fail", call] => scant.inner.fail_at(call.parse().ok()?).ok()?,
-        ["fail", "from", call] => scant.inner.fail_from(call.parse().ok()?),
-        ["none", "from", call] => scant.none_from = call.parse().ok()?,
-        _ => return None,
+/// Gives the stream a text and the end of a line.
+fn give_line(alloc: Global, stream: &mut MemStream, line: &str) -> Option<()> {
+    let line = format!(in alloc; "{line}\n").ok()?;
+    stream.give(line.as_bytes()).ok()
+}
+
+/// Prepares the next stream as the words say: none if they say nothing of it.
+fn prepare_by(alloc: Global, scant: &mut Scant, words: &[&str]) -> Option<()> {
+    let (word, rest) = words.split_first()?;
+    match *word {
+        "take" => take(&mut scant.inner, rest),
+        "fail" => fail(&mut scant.inner, rest),
+        "none" => take_none(scant, rest),
+        "give" => give(alloc, &mut scant.inner, rest),
+        "pieces" => pieces(alloc, &mut scant.inner, rest),
+        _ => None,
     }
+}
+
+/// Lets the writes of the stream take so many bytes at most.
+fn take(stream: &mut MemStream, words: &[&str]) -> Option<()> {
+    let [most] = words else {
+        return None;
+    };
+    stream.take_at_most(most.parse().ok()?);
     Some(())
 }
 
-/// Gives the stream what the words say: none where they say nothing of it.
+/// Lets a call of the stream fail, or all from that one on.
+fn fail(stream: &mut MemStream, words: &[&str]) -> Option<()> {
+    match words {
+        [call] => stream.fail_at(call.parse().ok()?).ok(),
+        ["from", call] => {
+            stream.fail_from(call.parse().ok()?);
+            Some(())
+        }
+        _ => None,
+    }
+}
+
+/// Lets the writes of the stream take nothing from a call on.
+fn take_none(scant: &mut Scant, words: &[&str]) -> Option<()> {
+    let ["from", call] = words else {
+        return None;
+    };
+    scant.none_from = call.parse().ok()?;
+    Some(())
+}
+
+/// Gives the stream bytes, once or so many times over.
 fn give(alloc: Global, stream: &mut MemStream, words: &[&str]) -> Option<()> {
     match words {
-        ["give", digits] => stream.give(&bytes_of(alloc, digits)?).ok(),
-        ["give", digits, times] => {
+        [digits] => stream.give(&bytes_of(alloc, digits)?).ok(),
+        [digits, times] => {
             let times = times.parse().ok()?;
             give_times(alloc, stream, &bytes_of(alloc, digits)?, times)
-        }
-        ["pieces", count, digits] => {
-            let count = count.parse().ok()?;
-            give_pieces(stream, &bytes_of(alloc, digits)?, count)
         }
         _ => None,
     }
@@ -102,6 +134,15 @@ fn give_times(alloc: Global, stream: &mut MemStream, bytes: &[u8], times: u32) -
         all.extend_from_slice(bytes).ok()?;
     }
     stream.give(&all).ok()
+}
+
+/// Gives the stream bytes in pieces of so many, by the words of a row.
+fn pieces(alloc: Global, stream: &mut MemStream, words: &[&str]) -> Option<()> {
+    let [count, digits] = words else {
+        return None;
+    };
+    let count = count.parse().ok()?;
+    give_pieces(stream, &bytes_of(alloc, digits)?, count)
 }
 
 /// Gives the stream bytes in pieces of so many.

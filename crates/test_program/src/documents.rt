@@ -11,12 +11,13 @@
 //! `empty` is a new disk, and `fuse CALLS` one that lets so many calls pass. `init` makes the
 //! journal, and answers `0` or the fault; `file` are its bytes.
 
+use crate::lists::add;
 use crate::works::ending;
 use commands::init_disk;
 use disk::{Disk, MemDisk};
-use settings::{Address, ClientSettings, Settings};
+use settings::{Address, ClientSettings, Settings, SettingsFault};
 use std::alloc::Global;
-use test_words::{header_text, words_of};
+use test_words::header_text;
 
 /// A document, the settings that were read of it, and a disk.
 #[derive(Drop)]
@@ -40,64 +41,71 @@ impl Document {
 
     /// Plays a row.
     pub fn told(&mut self, action: &str) -> Option<String> {
-        if let Some(text) = action.strip_prefix("address ") {
-            return match Address::parse(text) {
-                Some(address) => address_text(self.alloc, address),
-                None => format!(in self.alloc; "none").ok(),
-            };
-        }
-        match action.strip_prefix("line ") {
-            Some(rest) => match rest.split_once(' ') {
-                Some((name, text)) => self.put(name, text),
-                None => self.put(rest, ""),
-            },
-            None => self.word(action),
+        match action.split_once(' ') {
+            Some((word, rest)) => self.given(word, rest),
+            None => self.plain(action),
         }
     }
 
-    /// Has the line of that name be that text.
-    fn put(&mut self, name: &str, text: &str) -> Option<String> {
-        let text = String::from_str(self.alloc, text).ok()?;
-        let place = self
-            .lines
-            .iter()
-            .position(|line| line.name.as_str() == name);
-        match place {
-            Some(place) => self.lines.get_mut(place)?.text = text,
-            None => {
-                let name = String::from_str(self.alloc, name).ok()?;
-                let usual = String::new(self.alloc);
-                self.lines.push(Line { name, usual, text }).ok()?;
+    /// Plays a row of a word and what stands behind it.
+    fn given(&mut self, word: &str, rest: &str) -> Option<String> {
+        match word {
+            "address" => address_or_none(self.alloc, Address::parse(rest)),
+            "line" => {
+                let (name, text) = rest.split_once(' ').unwrap_or((rest, ""));
+                self.put(name, text)
             }
-        }
-        Some(String::new(self.alloc))
-    }
-
-    /// Plays a row that is one of these words.
-    fn word(&mut self, action: &str) -> Option<String> {
-        let words = words_of(self.alloc, action)?;
-        match words.as_slice() {
-            ["keep"] => self.keep(),
-            ["usual"] => self.restore(),
-            ["read"] => self.read(),
-            ["client"] => self.client(),
-            ["init"] => self.init(),
-            ["empty"] => {
-                self.disk = MemDisk::new(self.alloc);
-                Some(String::new(self.alloc))
-            }
-            ["fuse", calls] => {
-                self.disk = MemDisk::new(self.alloc);
-                self.disk.fuse(Some(calls.parse().ok()?));
-                Some(String::new(self.alloc))
-            }
-            ["file"] => bytes_on(self.alloc, &mut self.disk),
-            [key] => self.value(key),
+            "fuse" => self.fuse(rest.parse().ok()?),
             _ => None,
         }
     }
 
-    /// Has what stands be the usual lines.
+    /// Sets the text of the line of that name.
+    fn put(&mut self, name: &str, text: &str) -> Option<String> {
+        let place = self
+            .lines
+            .iter()
+            .position(|line| line.name.as_str() == name);
+        let place = match place {
+            Some(place) => place,
+            None => self.add(name)?,
+        };
+        let line = self.lines.get_mut(place)?;
+        line.text = String::from_str(self.alloc, text).ok()?;
+        Some(String::new(self.alloc))
+    }
+
+    /// Adds a line of that name without text, and returns its place.
+    fn add(&mut self, name: &str) -> Option<usize> {
+        let place = self.lines.len();
+        let name = String::from_str(self.alloc, name).ok()?;
+        let (usual, text) = (String::new(self.alloc), String::new(self.alloc));
+        self.lines.push(Line { name, usual, text }).ok()?;
+        Some(place)
+    }
+
+    /// Puts in a disk that lets so many calls pass.
+    fn fuse(&mut self, calls: u64) -> Option<String> {
+        self.disk = MemDisk::new(self.alloc);
+        self.disk.fuse(Some(calls));
+        Some(String::new(self.alloc))
+    }
+
+    /// Plays a row of one word.
+    fn plain(&mut self, word: &str) -> Option<String> {
+        match word {
+            "keep" => self.keep(),
+            "usual" => self.restore(),
+            "read" => self.read(),
+            "client" => self.client(),
+            "init" => self.init(),
+            "empty" => self.clear(),
+            "file" => bytes_on(self.alloc, &mut self.disk),
+            key => value_text(self.alloc, self.settings.as_ref()?, key),
+        }
+    }
+
+    /// Keeps what stands as the usual lines.
     fn keep(&mut self) -> Option<String> {
         for line in self.lines.iter_mut() {
             line.usual = String::from_str(self.alloc, line.text.as_str()).ok()?;
@@ -105,7 +113,7 @@ impl Document {
         Some(String::new(self.alloc))
     }
 
-    /// Has the usual lines stand.
+    /// Goes back to the usual lines.
     fn restore(&mut self) -> Option<String> {
         for line in self.lines.iter_mut() {
             line.text = String::from_str(self.alloc, line.usual.as_str()).ok()?;
@@ -116,7 +124,7 @@ impl Document {
     /// Reads it.
     fn read(&mut self) -> Option<String> {
         self.settings = None;
-        match Settings::parse(self.alloc, self.text()?.as_str()) {
+        match self.settings()? {
             Ok(settings) => {
                 let text = header_text(self.alloc, &settings.header);
                 self.settings = Some(settings);
@@ -126,22 +134,31 @@ impl Document {
         }
     }
 
+    /// The settings of the document, or the fault.
+    fn settings(&self) -> Option<Result<Settings, SettingsFault>> {
+        let text = self.text()?;
+        Some(Settings::parse(self.alloc, text.as_str()))
+    }
+
     /// Reads it as a client's settings.
     fn client(&self) -> Option<String> {
-        match ClientSettings::parse(self.alloc, self.text()?.as_str()) {
+        match self.client_settings()? {
             Ok(client) => client_text(self.alloc, &client),
             Err(fault) => format!(in self.alloc; "{fault}").ok(),
         }
+    }
+
+    /// The client's settings of the document, or the fault.
+    fn client_settings(&self) -> Option<Result<ClientSettings, SettingsFault>> {
+        let text = self.text()?;
+        Some(ClientSettings::parse(self.alloc, text.as_str()))
     }
 
     /// The document.
     fn text(&self) -> Option<String> {
         let mut text = String::new(self.alloc);
         for line in &self.lines {
-            if !line.text.is_empty() {
-                text.push_str(line.text.as_str()).ok()?;
-                text.push_str("\n").ok()?;
-            }
+            add_line(&mut text, line.text.as_str())?;
         }
         Some(text)
     }
@@ -152,34 +169,10 @@ impl Document {
         ending(self.alloc, init_disk(&mut self.disk, settings))
     }
 
-    /// A value of the settings.
-    fn value(&self, key: &str) -> Option<String> {
-        let settings = self.settings.as_ref()?;
-        match key {
-            "journal" => String::from_str(self.alloc, settings.journal.as_str()).ok(),
-            "desk" => address_text(self.alloc, settings.desk),
-            "seed" => hex::encode(self.alloc, &settings.seed).ok(),
-            "peers" => addresses_text(self.alloc, &settings.peers),
-            "listen" => match settings.listen {
-                Some(address) => address_text(self.alloc, address),
-                None => format!(in self.alloc; "none").ok(),
-            },
-            "desk-socket" => {
-                let path = match &settings.desk_socket {
-                    Some(path) => path.as_str(),
-                    None => "none",
-                };
-                String::from_str(self.alloc, path).ok()
-            }
-            "epochs" => {
-                let folder = match &settings.epochs {
-                    Some(folder) => folder.as_str(),
-                    None => "none",
-                };
-                String::from_str(self.alloc, folder).ok()
-            }
-            _ => None,
-        }
+    /// Puts in a new disk.
+    fn clear(&mut self) -> Option<String> {
+        self.disk = MemDisk::new(self.alloc);
+        Some(String::new(self.alloc))
     }
 }
 
@@ -191,12 +184,53 @@ struct Line {
     text: String,
 }
 
+/// Adds a line to a document unless it is left out.
+fn add_line(text: &mut String, line: &str) -> Option<()> {
+    if line.is_empty() {
+        return Some(());
+    }
+    text.push_str(line).ok()?;
+    text.push('\n').ok()
+}
+
 /// The bytes of a disk.
 fn bytes_on(alloc: Global, disk: &mut MemDisk) -> Option<String> {
     let len = disk.len().ok()?;
     let mut bytes = vec![in alloc; 0; len].ok()?;
-    disk.read_at(0, &mut bytes).ok()?;
-    hex::encode(alloc, &bytes).ok()
+    match disk.read_at(0, &mut bytes) {
+        Ok(()) => hex::encode(alloc, &bytes).ok(),
+        Err(_) => None,
+    }
+}
+
+/// A value of the settings.
+fn value_text(alloc: Global, settings: &Settings, key: &str) -> Option<String> {
+    match key {
+        "journal" => String::from_str(alloc, settings.journal.as_str()).ok(),
+        "desk" => address_text(alloc, settings.desk),
+        "seed" => hex::encode(alloc, &settings.seed).ok(),
+        "peers" => addresses_text(alloc, &settings.peers),
+        "listen" => address_or_none(alloc, settings.listen),
+        "desk-socket" => path_or_none(alloc, &settings.desk_socket),
+        "epochs" => path_or_none(alloc, &settings.epochs),
+        _ => None,
+    }
+}
+
+/// A path, or `none`.
+fn path_or_none(alloc: Global, path: &Option<String>) -> Option<String> {
+    match path {
+        Some(path) => String::from_str(alloc, path.as_str()).ok(),
+        None => format!(in alloc; "none").ok(),
+    }
+}
+
+/// Returns what is said of an address, or `none`.
+fn address_or_none(alloc: Global, address: Option<Address>) -> Option<String> {
+    match address {
+        Some(address) => address_text(alloc, address),
+        None => format!(in alloc; "none").ok(),
+    }
 }
 
 /// Returns what is said of a client's settings.
@@ -213,10 +247,8 @@ fn client_text(alloc: Global, client: &ClientSettings) -> Option<String> {
 fn addresses_text(alloc: Global, addresses: &[Address]) -> Option<String> {
     let mut text = String::new(alloc);
     for address in addresses {
-        if !text.is_empty() {
-            text.push_str(" ").ok()?;
-        }
-        text.push_str(address_text(alloc, *address)?.as_str()).ok()?;
+        let item = address_text(alloc, *address)?;
+        add(&mut text, " ", item.as_str())?;
     }
     Some(text)
 }

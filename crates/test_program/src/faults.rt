@@ -13,26 +13,26 @@ use sim::SimFault;
 use std::alloc::Global;
 use std::fmt::Display;
 use terms::{Memory, SizeFault};
-use test_words::{journal_fault, words_of};
+use test_words::journal_fault;
 use troubles::Fault;
 
 /// Plays a row.
 pub fn told(alloc: Global, action: &str) -> Option<String> {
-    let words = words_of(alloc, action)?;
-    match words.as_slice() {
-        ["SizeFault", name] => text_of(alloc, size(name)),
-        ["JournalFault", name] => text_of(alloc, journal_fault(name)),
-        ["CoreFault", name] => text_of(alloc, core(name)),
-        ["MemberFault", name] => text_of(alloc, member(name)),
-        ["SimFault", name] => text_of(alloc, sim(name)),
-        ["InitFault", name] => text_of(alloc, init(name)),
-        ["TalkFault", name] => text_of(alloc, talk(name)),
-        ["HearFault", words @ ..] => text_of(alloc, hear(words)),
-        ["ScriptFault", words @ ..] => text_of(alloc, script(words)),
-        ["DumpFault", words @ ..] => text_of(alloc, dump(words)),
-        ["SimulateFault", words @ ..] => text_of(alloc, simulate(words)),
-        ["Memory"] => text_of(alloc, Some(Memory)),
-        ["Fault", words @ ..] => ending_of(alloc, &program(alloc, words)?),
+    let (kind, rest) = action.split_once(' ').unwrap_or((action, ""));
+    match kind {
+        "SizeFault" => text_of(alloc, size(rest)),
+        "JournalFault" => text_of(alloc, journal_fault(rest)),
+        "CoreFault" => text_of(alloc, core(rest)),
+        "MemberFault" => text_of(alloc, member(rest)),
+        "SimFault" => text_of(alloc, sim(rest)),
+        "InitFault" => text_of(alloc, init(rest)),
+        "TalkFault" => text_of(alloc, talk(rest)),
+        "HearFault" => text_of(alloc, hear(rest)),
+        "ScriptFault" => text_of(alloc, script(rest)),
+        "DumpFault" => text_of(alloc, dump(rest)),
+        "SimulateFault" => text_of(alloc, simulate(rest)),
+        "Memory" => text_of(alloc, Some(Memory)),
+        "Fault" => ending_of(alloc, &program(alloc, rest)?),
         _ => None,
     }
 }
@@ -72,51 +72,38 @@ fn ending_of(alloc: Global, fault: &Fault) -> Option<String> {
 }
 
 /// The fault of the program.
-fn program(alloc: Global, words: &[&str]) -> Option<Fault> {
-    match words {
-        ["Argument", place] => Some(Fault::Argument(place.parse().ok()?)),
-        ["SameFile", path] => Some(Fault::SameFile(path.to_string(alloc).ok()?)),
-        ["Size", name] => Some(Fault::Size(size(name)?)),
-        ["File"] => Some(Fault::File),
-        ["Hosts"] => Some(Fault::Hosts),
-        ["Timeout"] => Some(Fault::Timeout),
-        ["Words"] => Some(Fault::Words),
-        ["Question"] => Some(Fault::Question),
-        ["Member"] => Some(Fault::Member),
-        ["First"] => Some(Fault::First),
-        ["Last"] => Some(Fault::Last),
-        ["Address"] => Some(Fault::Address),
-        ["Trace"] => Some(Fault::Trace),
-        ["Chart"] => Some(Fault::Chart),
-        ["Stream"] => Some(Fault::Stream),
-        ["Memory"] => Some(Fault::Memory),
-        words => becomes(words),
+fn program(alloc: Global, words: &str) -> Option<Fault> {
+    match words.split_once(' ') {
+        Some(("SameFile", path)) => Some(Fault::SameFile(path.to_string(alloc).ok()?)),
+        Some((kind, rest)) => becomes(kind, rest),
+        None => of_words(words),
     }
 }
 
-/// The fault of the program that another one becomes.
-fn becomes(words: &[&str]) -> Option<Fault> {
-    match words {
-        ["Hear", words @ ..] => Some(Fault::Hear(hear(words)?)),
-        ["Init", name] => Some(Fault::Init(init(name)?)),
-        ["Dump", words @ ..] => Some(Fault::Dump(dump(words)?)),
-        ["Simulate", words @ ..] => Some(Fault::Simulate(simulate(words)?)),
-        ["Talk", name] => Some(Fault::Talk(talk(name)?)),
-        ["Run", name] => Some(Fault::Run(run(name)?)),
-        ["Settings", name] => Some(Fault::Settings(settings(name)?)),
-        ["Journal", name] => Some(Fault::Journal(journal_fault(name)?)),
+/// The fault of the program that another one becomes, or that has a place.
+fn becomes(kind: &str, rest: &str) -> Option<Fault> {
+    match kind {
+        "Argument" => Some(Fault::Argument(rest.parse().ok()?)),
+        "Size" => Some(Fault::Size(size(rest)?)),
+        "Hear" => Some(Fault::Hear(hear(rest)?)),
+        "Init" => Some(Fault::Init(init(rest)?)),
+        "Dump" => Some(Fault::Dump(dump(rest)?)),
+        "Simulate" => Some(Fault::Simulate(simulate(rest)?)),
+        "Talk" => Some(Fault::Talk(talk(rest)?)),
+        "Run" => Some(Fault::Run(run(rest)?)),
+        "Settings" => Some(Fault::Settings(settings(rest)?)),
+        "Journal" => Some(Fault::Journal(journal_fault(rest)?)),
         _ => None,
     }
 }
 
 /// The fault of `hear`.
-fn hear(words: &[&str]) -> Option<HearFault> {
+fn hear(words: &str) -> Option<HearFault> {
     match words {
-        ["Me"] => Some(HearFault::Me),
-        ["Line", number] => Some(HearFault::Line(number.parse().ok()?)),
-        ["Stream"] => Some(HearFault::Stream),
-        ["Memory"] => Some(HearFault::Memory),
-        _ => None,
+        "Me" => Some(HearFault::Me),
+        "Stream" => Some(HearFault::Stream),
+        "Memory" => Some(HearFault::Memory),
+        words => Some(HearFault::Line(line(words)?)),
     }
 }
 
@@ -130,27 +117,46 @@ fn init(name: &str) -> Option<InitFault> {
 }
 
 /// The fault of `dump`.
-fn dump(words: &[&str]) -> Option<DumpFault> {
+fn dump(words: &str) -> Option<DumpFault> {
     match words {
-        ["Journal", name] => Some(DumpFault::Journal(journal_fault(name)?)),
-        ["from", "JournalFault", name] => Some(DumpFault::from(journal_fault(name)?)),
-        ["Stream"] => Some(DumpFault::Stream),
-        ["Memory"] => Some(DumpFault::Memory),
-        _ => None,
+        "Stream" => Some(DumpFault::Stream),
+        "Memory" => Some(DumpFault::Memory),
+        words => dump_of(words),
+    }
+}
+
+/// The fault of `dump` that has another one with it.
+fn dump_of(words: &str) -> Option<DumpFault> {
+    match words.strip_prefix("from JournalFault ") {
+        Some(name) => Some(DumpFault::from(journal_fault(name)?)),
+        None => Some(DumpFault::Journal(journal_fault(words.strip_prefix("Journal ")?)?)),
     }
 }
 
 /// The fault of `simulate`.
-fn simulate(words: &[&str]) -> Option<SimulateFault> {
-    match words {
-        ["Line", number] => Some(SimulateFault::Line(number.parse().ok()?)),
-        ["Events"] => Some(SimulateFault::Events),
-        ["Size", name] => Some(SimulateFault::Size(size(name)?)),
-        ["Sim", name] => Some(SimulateFault::Sim(sim(name)?)),
-        ["from", "SimFault", name] => Some(SimulateFault::from(sim(name)?)),
-        ["from", "ScriptFault", words @ ..] => Some(SimulateFault::from(script(words)?)),
-        ["Stream"] => Some(SimulateFault::Stream),
-        ["Memory"] => Some(SimulateFault::Memory),
+fn simulate(words: &str) -> Option<SimulateFault> {
+    match words.split_once(' ') {
+        Some((kind, rest)) => simulate_of(kind, rest),
+        None => simulate_alone(words),
+    }
+}
+
+/// The fault of `simulate` that has a number or another one with it.
+fn simulate_of(kind: &str, rest: &str) -> Option<SimulateFault> {
+    match kind {
+        "Line" => Some(SimulateFault::Line(rest.parse().ok()?)),
+        "Size" => Some(SimulateFault::Size(size(rest)?)),
+        "Sim" => Some(SimulateFault::Sim(sim(rest)?)),
+        "from" => simulate_from(rest),
+        _ => None,
+    }
+}
+
+/// The fault of `simulate` that another one becomes.
+fn simulate_from(words: &str) -> Option<SimulateFault> {
+    match words.split_once(' ')? {
+        ("SimFault", name) => Some(SimulateFault::from(sim(name)?)),
+        ("ScriptFault", words) => Some(SimulateFault::from(script(words)?)),
         _ => None,
     }
 }
@@ -168,13 +174,19 @@ fn sim(name: &str) -> Option<SimFault> {
 }
 
 /// The fault of a script.
-fn script(words: &[&str]) -> Option<ScriptFault> {
+fn script(words: &str) -> Option<ScriptFault> {
     match words {
-        ["Line", number] => Some(ScriptFault::Line(number.parse().ok()?)),
-        ["Events"] => Some(ScriptFault::Events),
-        ["Size", name] => Some(ScriptFault::Size(size(name)?)),
-        ["Memory"] => Some(ScriptFault::Memory),
-        _ => None,
+        "Events" => Some(ScriptFault::Events),
+        "Memory" => Some(ScriptFault::Memory),
+        words => script_of(words),
+    }
+}
+
+/// The fault of a script that has a number or another one with it.
+fn script_of(words: &str) -> Option<ScriptFault> {
+    match words.strip_prefix("Size ") {
+        Some(name) => Some(ScriptFault::Size(size(name)?)),
+        None => Some(ScriptFault::Line(line(words)?)),
     }
 }
 
@@ -186,6 +198,21 @@ fn size(name: &str) -> Option<SizeFault> {
         "TooManyLiars" => Some(SizeFault::TooManyLiars),
         "NoQuestions" => Some(SizeFault::NoQuestions),
         "TooManyQuestions" => Some(SizeFault::TooManyQuestions),
+        _ => None,
+    }
+}
+
+/// The number of a line.
+fn line(words: &str) -> Option<u64> {
+    words.strip_prefix("Line ")?.parse().ok()
+}
+
+/// The fault of `simulate` that has nothing with it.
+fn simulate_alone(name: &str) -> Option<SimulateFault> {
+    match name {
+        "Events" => Some(SimulateFault::Events),
+        "Stream" => Some(SimulateFault::Stream),
+        "Memory" => Some(SimulateFault::Memory),
         _ => None,
     }
 }
@@ -219,6 +246,26 @@ fn settings(name: &str) -> Option<SettingsFault> {
         "Text" => Some(SettingsFault::Text),
         "Cluster" => Some(SettingsFault::Key(Key::Cluster)),
         "Seed" => Some(SettingsFault::Key(Key::Seed)),
+        _ => None,
+    }
+}
+
+/// The fault of the program that has nothing with it.
+fn of_words(name: &str) -> Option<Fault> {
+    match name {
+        "File" => Some(Fault::File),
+        "Hosts" => Some(Fault::Hosts),
+        "Timeout" => Some(Fault::Timeout),
+        "Words" => Some(Fault::Words),
+        "Question" => Some(Fault::Question),
+        "Member" => Some(Fault::Member),
+        "First" => Some(Fault::First),
+        "Last" => Some(Fault::Last),
+        "Address" => Some(Fault::Address),
+        "Trace" => Some(Fault::Trace),
+        "Chart" => Some(Fault::Chart),
+        "Stream" => Some(Fault::Stream),
+        "Memory" => Some(Fault::Memory),
         _ => None,
     }
 }

@@ -13,36 +13,57 @@
 
 ghost use Rattle.std.specs.Prelude.{◌≤◌, IfSome};
 
+use crate::lists::add;
 use chances::{End, Order, Setting, end_of, play, strategy, table_text};
 use std::alloc::Global;
 use terms::{Size, Value};
-use trials::judge;
+use test_words::words_of;
+use trials::{Judgement, judge};
 
 /// Plays a row.
 pub fn told(alloc: Global, action: &str) -> Option<String> {
     let (what, rest) = action.split_once(' ').unwrap_or((action, ""));
-    if what == "judge" {
-        return judged(alloc, rest);
-    }
-    let words: Vec<&str> = rest.split(' ').collect(alloc).ok()?;
     match what {
-        "play" => played(alloc, &words),
-        "order" => ordered(alloc, &words),
-        "lie" => lied(alloc, &words),
-        "end" => ended(alloc, &words),
-        "table" => tabled(alloc, &words),
-        _ => None,
+        "judge" => judged(alloc, rest),
+        what => asked(alloc, what, rest),
     }
 }
 
 /// The judgement of a trace.
 fn judged(alloc: Global, rest: &str) -> Option<String> {
     let (least, lines) = rest.split_once(' ').unwrap_or((rest, ""));
+    let least = least.parse().ok()?;
     let trace = lines.replace(alloc, '|', "\n").ok()?;
-    let told = judge(alloc, trace.as_bytes(), least.parse().ok()?).ok()?;
-    match told.finding {
-        Some(finding) => format!(in alloc; "{} {finding}", told.decisions).ok(),
-        None => format!(in alloc; "{} fine", told.decisions).ok(),
+    match judge(alloc, trace.as_bytes(), least) {
+        Ok(judgement) => judgement_text(alloc, &judgement),
+        Err(_) => None,
+    }
+}
+
+/// The count of decisions, and what was found.
+fn judgement_text(alloc: Global, judgement: &Judgement) -> Option<String> {
+    let decisions = judgement.decisions;
+    match &judgement.finding {
+        Some(finding) => format!(in alloc; "{decisions} {finding}").ok(),
+        None => format!(in alloc; "{decisions} fine").ok(),
+    }
+}
+
+/// Plays a row of words.
+fn asked(alloc: Global, what: &str, rest: &str) -> Option<String> {
+    let words = words_of(alloc, rest)?;
+    of_words(alloc, what, &words)
+}
+
+/// Plays a row of these words.
+fn of_words(alloc: Global, what: &str, words: &[&str]) -> Option<String> {
+    match what {
+        "play" => played(alloc, words),
+        "order" => ordered(alloc, words),
+        "lie" => lied(alloc, words),
+        "end" => ended(alloc, words),
+        "table" => tabled(alloc, words),
+        _ => None,
     }
 }
 
@@ -56,7 +77,8 @@ fn played(alloc: Global, words: &[&str]) -> Option<String> {
         liars: liars.parse().ok()?,
         order: order_of(order)?,
     };
-    match play(alloc, &setting, seed.parse().ok()?) {
+    let seed = seed.parse().ok()?;
+    match play(alloc, &setting, seed) {
         Ok(end) => end_text(alloc, end),
         Err(fault) => format!(in alloc; "{fault}").ok(),
     }
@@ -77,19 +99,12 @@ fn ordered(alloc: Global, words: &[&str]) -> Option<String> {
     let [n, t, step, receiver, signs] = words else {
         return None;
     };
-    let values = values_of(alloc, signs)?;
     let size = size_of(n, t)?;
+    let step = step_of(step)?;
     let receiver = receiver.parse().ok()?;
-    let order = receiver_order(alloc, size, step_of(step)?, &values, receiver)?;
-    let mut text = String::new(alloc);
-    for origin in &order {
-        if !text.is_empty() {
-            text.push(' ').ok()?;
-        }
-        text.push_str(format!(in alloc; "{origin}").ok()?.as_str())
-            .ok()?;
-    }
-    Some(text)
+    let values = values_of(alloc, signs)?;
+    let order = receiver_order(alloc, size, step, &values, receiver)?;
+    origins_text(alloc, &order)
 }
 
 /// The adversary's order for this receiver, of values of at most 64 members.
@@ -106,14 +121,24 @@ fn receiver_order(
     strategy::order(alloc, size, step, values, receiver).ok()
 }
 
+/// The origins of an order.
+fn origins_text(alloc: Global, order: &[u8]) -> Option<String> {
+    let mut text = String::new(alloc);
+    for origin in order {
+        let item = format!(in alloc; "{origin}").ok()?;
+        add(&mut text, " ", item.as_str())?;
+    }
+    Some(text)
+}
+
 /// A liar's value.
 fn lied(alloc: Global, words: &[&str]) -> Option<String> {
     let [n, t, step, signs] = words else {
         return None;
     };
-    let values = values_of(alloc, signs)?;
     let size = size_of(n, t)?;
     let step = step_of(step)?;
+    let values = values_of(alloc, signs)?;
     let value = strategy::lie(size, step, &values);
     format!(in alloc; "{}", sign_of(value)).ok()
 }
@@ -199,14 +224,20 @@ fn end_text(alloc: Global, end: End) -> Option<String> {
 fn tabled(alloc: Global, words: &[&str]) -> Option<String> {
     let mut ends = Vec::new(alloc);
     for word in words {
-        let end = if *word == "-" {
-            End::Open
-        } else {
-            End::Decided(word.parse().ok()?)
-        };
-        ends.push(end).ok()?;
+        ends.push(end_named(word)?).ok()?;
     }
-    flat(alloc, table_text(alloc, &ends).ok()?.as_str())
+    match table_text(alloc, &ends) {
+        Ok(text) => flat(alloc, text.as_str()),
+        Err(_) => None,
+    }
+}
+
+/// The end of a word.
+fn end_named(word: &str) -> Option<End> {
+    match word {
+        "-" => Some(End::Open),
+        round => Some(End::Decided(round.parse().ok()?)),
+    }
 }
 
 /// The text with `|` in place of the end of a line.

@@ -7,6 +7,7 @@ mod documents;
 pub mod faults;
 mod jobs;
 pub mod judgements;
+mod lists;
 pub mod processes;
 pub mod surveys;
 mod texts;

@@ -23,30 +23,10 @@ pub fn told(alloc: Global, action: &str) -> Option<String> {
     match what {
         "loud" => format!(in alloc; "{}", wants_quiet(&Quiet(None))).ok(),
         "quiet" => format!(in alloc; "{}", wants_quiet(&Quiet(Some(rest.as_bytes())))).ok(),
-        "files" => files_text(alloc, open_limit(alloc, &file_of(alloc, rest)?).ok()?),
-        "blocked" => {
-            let blocked = is_blocked(alloc, &file_of(alloc, rest)?).ok()?;
-            format!(in alloc; "{blocked}").ok()
-        }
-        "called" => {
-            let called = is_called(alloc, &file_of(alloc, rest)?).ok()?;
-            format!(in alloc; "{called}").ok()
-        }
-        "clients" => {
-            let (files, n) = rest.split_once(' ')?;
-            let clients = clients_within(files_of(files)?, n.parse().ok()?);
-            format!(in alloc; "{clients}").ok()
-        }
-        "followers" => {
-            let (files, n) = rest.split_once(' ')?;
-            let followers = followers_within(files_of(files)?, n.parse().ok()?);
-            format!(in alloc; "{followers}").ok()
-        }
-        "lack" => {
-            let (files, n) = rest.split_once(' ')?;
-            lack_of(alloc, files.parse().ok()?, n.parse().ok()?)
-        }
-        _ => None,
+        "files" => limit_of(alloc, rest),
+        "blocked" => blocked(alloc, rest),
+        "called" => called(alloc, rest),
+        what => paired(alloc, what, rest),
     }
 }
 
@@ -80,11 +60,38 @@ impl Env for Quiet<'_> {
     }
 }
 
+/// Returns how many files the process of these limits may have open.
+fn limit_of(alloc: Global, lines: &str) -> Option<String> {
+    let file = file_of(alloc, lines)?;
+    match open_limit(alloc, &file) {
+        Ok(files) => files_text(alloc, files),
+        Err(_) => None,
+    }
+}
+
 /// A number, or `none`.
 fn files_text(alloc: Global, files: Option<u64>) -> Option<String> {
     match files {
         Some(files) => format!(in alloc; "{files}").ok(),
         None => format!(in alloc; "none").ok(),
+    }
+}
+
+/// Returns whether the process of this status blocks a signal that ends a member.
+fn blocked(alloc: Global, lines: &str) -> Option<String> {
+    let file = file_of(alloc, lines)?;
+    match is_blocked(alloc, &file) {
+        Ok(blocked) => format!(in alloc; "{blocked}").ok(),
+        Err(_) => None,
+    }
+}
+
+/// Returns whether a signal that ends a member waits for the process of this status.
+fn called(alloc: Global, lines: &str) -> Option<String> {
+    let file = file_of(alloc, lines)?;
+    match is_called(alloc, &file) {
+        Ok(called) => format!(in alloc; "{called}").ok(),
+        Err(_) => None,
     }
 }
 
@@ -99,6 +106,18 @@ fn file_of(alloc: Global, lines: &str) -> Option<Vec<u8>> {
     Some(bytes)
 }
 
+/// Plays a row of a count of files and a size.
+fn paired(alloc: Global, what: &str, rest: &str) -> Option<String> {
+    let (files, n) = rest.split_once(' ')?;
+    let (files, n) = (files_of(files)?, n.parse().ok()?);
+    match what {
+        "clients" => format!(in alloc; "{}", clients_within(files, n)).ok(),
+        "followers" => format!(in alloc; "{}", followers_within(files, n)).ok(),
+        "lack" => lack_of(alloc, files?, n),
+        _ => None,
+    }
+}
+
 /// The number of a word, or `none`.
 fn files_of(word: &str) -> Option<Option<u64>> {
     match word {
@@ -109,8 +128,9 @@ fn files_of(word: &str) -> Option<Option<u64>> {
 
 /// Returns what is said of so many files, without the end of its line, or `enough`.
 fn lack_of(alloc: Global, files: u64, n: u8) -> Option<String> {
-    match descriptors_lack(alloc, files, n).ok()? {
-        Some(said) => format!(in alloc; "{}", said.as_str().trim_end()).ok(),
-        None => format!(in alloc; "enough").ok(),
+    match descriptors_lack(alloc, files, n) {
+        Ok(Some(said)) => String::from_str(alloc, said.as_str().trim_end()).ok(),
+        Ok(None) => format!(in alloc; "enough").ok(),
+        Err(_) => None,
     }
 }

@@ -10,34 +10,24 @@
 //! where nothing between two slashes is no reply: the status, and the lines, with `|` before each.
 //! `epochs-json` answers the object.
 
+use crate::lists::with_lines;
 use commands::{
     Next, Told, Word, later_word, next_of, remarks, tell_decision, tell_epochs, told_of,
     transcript_bit, word_of,
 };
 use std::alloc::Global;
-use test_words::{Output, words_of};
+use test_words::Output;
 
 /// Plays a row.
 pub fn told(alloc: Global, action: &str) -> Option<String> {
     let (name, rest) = action.split_once(' ')?;
     match name {
         "reply" => replied(alloc, rest),
-        "head" => {
-            let (question, text) = rest.split_once(' ')?;
-            headed(alloc, question, text)
-        }
-        "then" => {
-            let (first, second) = rest.split_once(' ')?;
-            let word = later_word(word_named(first)?, word_named(second)?);
-            String::from_str(alloc, name_of(word)).ok()
-        }
+        "head" => headed(alloc, rest),
+        "then" => followed(alloc, rest),
         "epochs" => closed(alloc, rest, false),
         "epochs-json" => closed(alloc, rest, true),
-        "tell" => {
-            let (decision, names) = rest.split_once(' ')?;
-            let names = words_of(alloc, names)?;
-            printed(alloc, decision_named(decision)?, &names)
-        }
+        "tell" => told_of_all(alloc, rest),
         _ => None,
     }
 }
@@ -62,13 +52,21 @@ fn next_name(next: Next) -> &'static str {
 }
 
 /// The answer to a text.
-fn headed(alloc: Global, question: &str, text: &str) -> Option<String> {
+fn headed(alloc: Global, row: &str) -> Option<String> {
+    let (question, text) = row.split_once(' ')?;
     let question: u16 = question.parse().ok()?;
     let name = match transcript_bit(alloc, text.as_bytes(), question).ok()? {
         None => "none",
         Some(bit) => name_of(Word::Decided(bit)),
     };
     String::from_str(alloc, name).ok()
+}
+
+/// The word that counts after two.
+fn followed(alloc: Global, row: &str) -> Option<String> {
+    let (first, second) = row.split_once(' ')?;
+    let word = later_word(word_named(first)?, word_named(second)?);
+    String::from_str(alloc, name_of(word)).ok()
 }
 
 /// The name of a word.
@@ -83,18 +81,21 @@ fn name_of(word: Word) -> &'static str {
 
 /// The answer to replies to `EPOCHS`.
 fn closed(alloc: Global, replies: &str, json: bool) -> Option<String> {
+    let words = replies_of(alloc, replies)?;
+    let mut output = Output::new(alloc);
+    match tell_epochs(alloc, &words, json, &mut output) {
+        Ok(status) => status_text(alloc, status, output.text()?),
+        Err(_) => None,
+    }
+}
+
+/// The words on their epochs of members that replied so.
+fn replies_of(alloc: Global, replies: &str) -> Option<Vec<Told>> {
     let mut words = Vec::new(alloc);
     for reply in replies.split('/') {
         words.push(epochs_of(alloc, reply)?).ok()?;
     }
-    let mut output = Output::new(alloc);
-    let status = tell_epochs(alloc, &words, json, &mut output).ok()?;
-    let mut text = format!(in alloc; "{status}").ok()?;
-    for line in output.text()?.lines() {
-        text.push_str(" | ").ok()?;
-        text.push_str(line).ok()?;
-    }
-    Some(text)
+    Some(words)
 }
 
 /// The word on its epochs of a member that replied so, or not at all.
@@ -102,27 +103,48 @@ fn epochs_of(alloc: Global, reply: &str) -> Option<Told> {
     if reply.is_empty() {
         return Some(told_of(None));
     }
-    let mut bytes = Vec::new(alloc);
-    bytes.extend_from_slice(reply.as_bytes()).ok()?;
+    let bytes = Vec::from_slice(alloc, reply.as_bytes()).ok()?;
     Some(told_of(Some(bytes)))
 }
 
+/// A status, and the lines behind it.
+fn status_text(alloc: Global, status: u8, lines: &str) -> Option<String> {
+    with_lines(format!(in alloc; "{status}").ok()?, lines)
+}
+
 /// The answer to a decision and words.
-fn printed(alloc: Global, decision: Option<bool>, names: &[&str]) -> Option<String> {
+fn told_of_all(alloc: Global, row: &str) -> Option<String> {
+    let (decision, names) = row.split_once(' ')?;
+    let decision = decision_named(decision)?;
+    let said = said_of(alloc, names)?;
+    match remarks(alloc, &said, decision) {
+        Ok(errors) => with_lines(decision_text(alloc, decision)?, errors.as_str()),
+        Err(_) => None,
+    }
+}
+
+/// The words of these names.
+fn said_of(alloc: Global, names: &str) -> Option<Vec<Word>> {
     let mut said = Vec::new(alloc);
-    for name in names {
+    for name in names.split(' ') {
         said.push(word_named(name)?).ok()?;
     }
+    Some(said)
+}
+
+/// Prints a decision: the status, and the line.
+fn decision_text(alloc: Global, decision: Option<bool>) -> Option<String> {
     let mut output = Output::new(alloc);
-    let status = tell_decision(alloc, decision, false, &mut output).ok()?;
-    let line = output.line(alloc)?;
-    let errors = remarks(alloc, &said, decision).ok()?;
-    let mut text = format!(in alloc; "{status} {line}").ok()?;
-    for error in errors.as_str().lines() {
-        text.push_str(" | ").ok()?;
-        text.push_str(error).ok()?;
+    match tell_decision(alloc, decision, false, &mut output) {
+        Ok(status) => line_text(alloc, status, output.text()?),
+        Err(_) => None,
     }
-    Some(text)
+}
+
+/// A status, and the line of a text of one.
+fn line_text(alloc: Global, status: u8, text: &str) -> Option<String> {
+    let line = text.strip_suffix("\n")?;
+    format!(in alloc; "{status} {line}").ok()
 }
 
 /// The word of that name.

@@ -9,13 +9,14 @@
 //! skipped; `saves RECORD ..` are the records that the next one saved, as `lives` writes them.
 //! `trace` writes their trace, and each row `-> LINE` is a line of it.
 
+use crate::lists::add;
 use report::write_trace;
 use rounds::Toss;
 use script::{Script, ScriptFault, Source, read};
 use sim::{Event, Mark, Reason};
 use std::alloc::Global;
 use terms::Record;
-use test_words::{Output, record_of, words_of};
+use test_words::{Output, record_of};
 
 /// A script's text, what was read of it, and what became of its events.
 #[derive(Drop)]
@@ -47,13 +48,28 @@ impl Texts {
             return self.output.line(self.alloc);
         }
         match action.split_once(' ') {
-            Some(("<", line)) => self.add(1, line),
-            Some(("many", row)) => {
-                let (count, line) = row.split_once(' ')?;
-                self.add(count.parse().ok()?, line)
-            }
-            _ => self.word(action),
+            Some((word, rest)) => self.given(word, rest),
+            None => self.plain(action),
         }
+    }
+
+    /// Plays a row of a word and values.
+    fn given(&mut self, word: &str, values: &str) -> Option<String> {
+        match word {
+            "<" => self.add(1, values),
+            "many" => self.add_many(values),
+            "event" => self.event(values.parse().ok()?),
+            "marks" => self.mark(values),
+            "saves" => self.save(records_of(self.alloc, values)?),
+            "no" => self.none(values),
+            _ => None,
+        }
+    }
+
+    /// Adds a line as often as the row says.
+    fn add_many(&mut self, row: &str) -> Option<String> {
+        let (count, line) = row.split_once(' ')?;
+        self.add(count.parse().ok()?, line)
     }
 
     /// Adds a line so many times.
@@ -65,24 +81,38 @@ impl Texts {
         Some(String::new(self.alloc))
     }
 
-    /// Plays a row that is one of these words.
-    fn word(&mut self, action: &str) -> Option<String> {
-        let words = words_of(self.alloc, action)?;
-        match words.as_slice() {
-            ["new"] => self.begin(),
-            ["read"] => self.read(),
-            ["liars"] => self.liars(),
-            ["event", number] => self.event(number.parse().ok()?),
-            ["source"] => self.source(),
-            ["unmarked"] => {
-                self.marks.clear();
-                self.saved = Vec::new(self.alloc);
-                Some(String::new(self.alloc))
-            }
-            ["marks", names @ ..] => self.mark(names),
-            ["saves", records @ ..] => self.save(records),
-            ["trace"] => self.trace(),
-            ["no", "more"] if self.output.is_told() => Some(String::new(self.alloc)),
+    /// An event, counted from 1.
+    fn event(&self, number: usize) -> Option<String> {
+        let events = &self.script.as_ref()?.events;
+        event_text(self.alloc, events.get(number.saturating_sub(1))?)
+    }
+
+    /// Adds marks.
+    fn mark(&mut self, names: &str) -> Option<String> {
+        for name in names.split(' ') {
+            self.marks.push(mark_of(name)?).ok()?;
+        }
+        Some(String::new(self.alloc))
+    }
+
+    /// Sees that no line of the output is left.
+    fn none(&self, what: &str) -> Option<String> {
+        match what {
+            "more" if self.output.is_told() => Some(String::new(self.alloc)),
+            _ => None,
+        }
+    }
+
+    /// Plays a row of one word.
+    fn plain(&mut self, word: &str) -> Option<String> {
+        match word {
+            "new" => self.begin(),
+            "read" => self.read(),
+            "liars" => liars_text(self.alloc, &self.script.as_ref()?.liars),
+            "source" => self.source(),
+            "unmarked" => self.unmark(),
+            "trace" => self.trace(),
+            "saves" => self.save(Vec::new(self.alloc)),
             _ => None,
         }
     }
@@ -110,23 +140,6 @@ impl Texts {
         }
     }
 
-    /// The liars that it lists.
-    fn liars(&self) -> Option<String> {
-        let mut text = String::new(self.alloc);
-        for liar in &self.script.as_ref()?.liars {
-            let space = if text.is_empty() { "" } else { " " };
-            text.push_str(format!(in self.alloc; "{space}{liar}").ok()?.as_str())
-                .ok()?;
-        }
-        Some(text)
-    }
-
-    /// An event, counted from 1.
-    fn event(&self, number: usize) -> Option<String> {
-        let events = &self.script.as_ref()?.events;
-        event_text(self.alloc, events.get(number.saturating_sub(1))?)
-    }
-
     /// Returns what a source of the text makes.
     fn source(&self) -> Option<String> {
         let script = self.script.as_ref()?;
@@ -137,38 +150,46 @@ impl Texts {
         }
     }
 
-    /// Adds marks.
-    fn mark(&mut self, names: &[&str]) -> Option<String> {
-        for name in names {
-            self.marks.push(mark_of(name)?).ok()?;
-        }
-        Some(String::new(self.alloc))
-    }
-
-    /// Adds the records of an event.
-    fn save(&mut self, words: &[&str]) -> Option<String> {
-        let mut records = Vec::new(self.alloc);
-        for word in words {
-            records.push(record_of(self.alloc, word)?).ok()?;
-        }
-        self.saved.push(records).ok()?;
+    /// Drops all marks and records.
+    fn unmark(&mut self) -> Option<String> {
+        self.marks.clear();
+        self.saved = Vec::new(self.alloc);
         Some(String::new(self.alloc))
     }
 
     /// Writes the trace.
     fn trace(&mut self) -> Option<String> {
-        let events = &self.script.as_ref()?.events;
+        let events = self.script.as_ref()?.events.as_slice();
         self.output.clear();
-        write_trace(
-            self.alloc,
-            events,
-            &self.marks,
-            &self.saved,
-            &mut self.output,
-        )
-        .ok()?;
+        let (marks, saved) = (self.marks.as_slice(), self.saved.as_slice());
+        write_trace(self.alloc, events, marks, saved, &mut self.output).ok()?;
         Some(String::new(self.alloc))
     }
+
+    /// Adds the records of an event.
+    fn save(&mut self, records: Vec<Record>) -> Option<String> {
+        self.saved.push(records).ok()?;
+        Some(String::new(self.alloc))
+    }
+}
+
+/// The liars of a list.
+fn liars_text(alloc: Global, liars: &[u8]) -> Option<String> {
+    let mut text = String::new(alloc);
+    for liar in liars {
+        let item = format!(in alloc; "{liar}").ok()?;
+        add(&mut text, " ", item.as_str())?;
+    }
+    Some(text)
+}
+
+/// The records of a text.
+fn records_of(alloc: Global, text: &str) -> Option<Vec<Record>> {
+    let mut records = Vec::new(alloc);
+    for word in text.split(' ') {
+        records.push(record_of(alloc, word)?).ok()?;
+    }
+    Some(records)
 }
 
 /// An event's line, and its toss.

@@ -16,11 +16,7 @@ use test_words::words_of;
 pub fn told(alloc: Global, action: &str) -> Option<String> {
     let words = words_of(alloc, action)?;
     match asked(alloc, words.as_slice()) {
-        Ok(request) => {
-            let quiet = if request.quiet { "quiet " } else { "" };
-            let task = task_text(alloc, request.task)?;
-            format!(in alloc; "{quiet}{task}").ok()
-        }
+        Ok(request) => request_text(alloc, request),
         Err(status) => format!(in alloc; "ends {status}").ok(),
     }
 }
@@ -30,6 +26,16 @@ fn asked<'a>(alloc: Global, words: &'a [&'a str]) -> Result<Request<'a>, i32> {
     match command(alloc, words) {
         Ok(request) => Ok(request),
         Err(error) => Err(error.exit_code()),
+    }
+}
+
+/// The text of what is asked for.
+fn request_text(alloc: Global, request: Request<'_>) -> Option<String> {
+    let task = task_text(alloc, request.task)?;
+    if request.quiet {
+        format!(in alloc; "quiet {task}").ok()
+    } else {
+        Some(task)
     }
 }
 
@@ -69,11 +75,8 @@ fn founding(alloc: Global, words: NewClusterWords<'_>) -> Option<String> {
         ..
     } = words;
     let text = format!(in alloc; "new-cluster {n} {t} {questions} {cluster} {folder}").ok()?;
-    let text = match words.hosts {
-        Some(hosts) => format!(in alloc; "{text} {hosts}").ok()?,
-        None => text,
-    };
     let parts = [
+        Part::Word(words.hosts),
         Part::Number("port", words.port.map(u32::from)),
         Part::Text("desk", words.desk),
         Part::Flag("epochs", words.epochs),
@@ -182,11 +185,9 @@ fn auditing(alloc: Global, words: AuditWords<'_>) -> Option<String> {
 
 /// The text of a simulation: its script, if it has one, its pages, and the choice of events.
 fn simulating(alloc: Global, words: SimulateWords<'_>) -> Option<String> {
-    let text = match words.script {
-        Some(script) => format!(in alloc; "simulate {script}").ok()?,
-        None => String::from_str(alloc, "simulate").ok()?,
-    };
+    let text = String::from_str(alloc, "simulate").ok()?;
     let parts = [
+        Part::Word(words.script),
         Part::Text("trace", words.trace),
         Part::Text("chart", words.chart),
         Part::Text("page", words.page),
@@ -264,15 +265,15 @@ fn part_text(alloc: Global, part: Part<'_>) -> Option<String> {
         Part::Flag(name, true) => format!(in alloc; " {name}").ok(),
         Part::Text(name, Some(value)) => format!(in alloc; " {name} {value}").ok(),
         Part::Number(name, Some(value)) => format!(in alloc; " {name} {value}").ok(),
-        Part::Flag(_, false) | Part::Text(_, None) | Part::Number(_, None) => {
-            Some(String::new(alloc))
-        }
+        Part::Word(Some(value)) => format!(in alloc; " {value}").ok(),
+        _ => Some(String::new(alloc)),
     }
 }
 
-/// An option of a task: its name, and its value, if it was given.
+/// An option of a task: its name, and its value, if it was given. A word has no name.
 #[derive(Clone, Copy)]
 enum Part<'a> {
+    Word(Option<&'a str>),
     Flag(&'static str, bool),
     Text(&'static str, Option<&'a str>),
     Number(&'static str, Option<u32>),

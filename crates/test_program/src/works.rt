@@ -8,11 +8,11 @@ use disk::MemDisk;
 use hearing::hear_lines;
 use numerals::size_from;
 use settings::Settings;
-use std::alloc::Global;
+use std::alloc::{AllocError, Global};
 use std::fmt::Display;
 use std::io::Write;
 use terms::Header;
-use test_words::{Input, Output, disk_of, header_of};
+use test_words::{Input, Output, disk_of, header_of, words_of};
 
 /// What runs over the input.
 #[derive(Clone, Copy)]
@@ -25,8 +25,6 @@ pub enum Work {
     Count,
     /// `simulate`.
     Simulate,
-    /// `simulate`, behind the script's trace.
-    Trace,
     /// The script's chart, with the events that are chosen.
     Chart(Choice),
     /// What `check` writes of settings.
@@ -41,27 +39,65 @@ pub enum Work {
     Status,
 }
 
-/// The work of these words.
-pub fn work_of(words: &[&str]) -> Option<Work> {
-    match words {
-        ["hear", n, t, questions, me] => {
-            let (n, t, questions) = (n.parse().ok()?, t.parse().ok()?, questions.parse().ok()?);
-            Some(Work::Hear(n, t, questions, me.parse().ok()?))
-        }
-        ["dump"] => Some(Work::Dump),
-        ["dump", "count"] => Some(Work::Count),
-        ["simulate"] => Some(Work::Simulate),
-        ["trace"] => Some(Work::Trace),
-        ["chart", parts @ ..] => Some(Work::Chart(choice_of(parts)?)),
-        ["settings"] => Some(Work::Settings),
-        ["check", n, t, questions, me] => Some(Work::Check(header_of(n, t, questions, me)?)),
-        ["ask", question] => Some(Work::Ask(question.parse().ok()?)),
-        ["propose", question, bit] => {
-            Some(Work::Propose(question.parse().ok()?, bit.parse().ok()?))
-        }
-        ["status"] => Some(Work::Status),
+/// The work of a word.
+pub fn plain_work(word: &str) -> Option<Work> {
+    match word {
+        "dump" => Some(Work::Dump),
+        "simulate" => Some(Work::Simulate),
+        "chart" => Some(Work::Chart(Choice::all())),
+        "settings" => Some(Work::Settings),
+        "status" => Some(Work::Status),
         _ => None,
     }
+}
+
+/// The work of a word and values.
+pub fn given_work(alloc: Global, word: &str, values: &str) -> Option<Work> {
+    match word {
+        "ask" => Some(Work::Ask(values.parse().ok()?)),
+        "propose" => propose_work(values),
+        "dump" => dump_work(values),
+        word => listed_work(alloc, word, values),
+    }
+}
+
+/// The work of `propose`.
+fn propose_work(values: &str) -> Option<Work> {
+    let (question, bit) = values.split_once(' ')?;
+    Some(Work::Propose(question.parse().ok()?, bit.parse().ok()?))
+}
+
+/// The work of `dump --count`.
+fn dump_work(values: &str) -> Option<Work> {
+    match values {
+        "count" => Some(Work::Count),
+        _ => None,
+    }
+}
+
+/// The work of a word and a list of values.
+fn listed_work(alloc: Global, word: &str, values: &str) -> Option<Work> {
+    let values = words_of(alloc, values)?;
+    work_of(word, &values)
+}
+
+/// The work of a word and these values.
+fn work_of(word: &str, values: &[&str]) -> Option<Work> {
+    match word {
+        "hear" => hear_work(values),
+        "check" => check_work(values),
+        "chart" => Some(Work::Chart(choice_of(values)?)),
+        _ => None,
+    }
+}
+
+/// The work of `hear`.
+fn hear_work(values: &[&str]) -> Option<Work> {
+    let [n, t, questions, me] = values else {
+        return None;
+    };
+    let (n, t, questions) = (n.parse().ok()?, t.parse().ok()?, questions.parse().ok()?);
+    Some(Work::Hear(n, t, questions, me.parse().ok()?))
 }
 
 /// The choice of these words, pairs of a name and a number.
@@ -89,6 +125,14 @@ fn with_part(choice: Choice, name: &str, number: &str) -> Option<Choice> {
     Some(chosen)
 }
 
+/// The work of `check`.
+fn check_work(values: &[&str]) -> Option<Work> {
+    let [n, t, questions, me] = values else {
+        return None;
+    };
+    Some(Work::Check(header_of(n, t, questions, me)?))
+}
+
 /// What a command runs on.
 #[derive(Drop)]
 pub struct Place<'a> {
@@ -105,19 +149,14 @@ pub struct Place<'a> {
 impl<'a> Place<'a> {
     /// Runs a command, and tells how it ends.
     pub fn run(&self, work: Work, sent: &mut Output, output: &mut Output) -> Option<String> {
-        let alloc = self.alloc;
         match work {
             Work::Hear(n, t, questions, me) => self.hear((n, t, questions), me, output),
-            Work::Dump => ending(alloc, dump_lines(alloc, &mut self.disk()?, output)),
-            Work::Count => ending(alloc, dump_count(alloc, &mut self.disk()?, output)),
-            Work::Simulate => ending(alloc, simulate_text(alloc, self.bytes, output)),
-            Work::Trace => self.pages(None, output),
-            Work::Chart(choice) => self.pages(Some(choice), output),
+            Work::Dump => self.dump(output),
+            Work::Count => self.count(output),
+            Work::Simulate => ending(self.alloc, simulate_text(self.alloc, self.bytes, output)),
+            Work::Chart(choice) => self.chart(choice, output),
             Work::Settings => self.settings(output),
-            Work::Check(header) => {
-                let checked = check_journal(alloc, &header, &mut self.disk()?, output);
-                ending(alloc, checked)
-            }
+            Work::Check(header) => self.check(&header, output),
             Work::Ask(_) | Work::Propose(_, _) | Work::Status => self.ask(work, sent, output),
         }
     }
@@ -136,6 +175,25 @@ impl<'a> Place<'a> {
         )
     }
 
+    /// Dumps the disk, and tells how that ends.
+    fn dump(&self, output: &mut Output) -> Option<String> {
+        let mut disk = self.disk()?;
+        ending(self.alloc, dump_lines(self.alloc, &mut disk, output))
+    }
+
+    /// Counts what the disk has, and tells how that ends.
+    fn count(&self, output: &mut Output) -> Option<String> {
+        let mut disk = self.disk()?;
+        ending(self.alloc, dump_count(self.alloc, &mut disk, output))
+    }
+
+    /// Checks the disk's journal, and tells how that ends.
+    fn check(&self, header: &Header, output: &mut Output) -> Option<String> {
+        let mut disk = self.disk()?;
+        let checked = check_journal(self.alloc, header, &mut disk, output);
+        ending(self.alloc, checked)
+    }
+
     /// The disk.
     fn disk(&self) -> Option<MemDisk> {
         let mut disk = disk_of(self.alloc, self.bytes).ok()?;
@@ -143,24 +201,15 @@ impl<'a> Place<'a> {
         Some(disk)
     }
 
-    /// A script's trace and what is printed behind it, or its chart with the events that are
-    /// chosen, and how that ends.
-    fn pages(&self, chart: Option<Choice>, output: &mut Output) -> Option<String> {
-        let ran = match Simulation::run(self.alloc, self.bytes) {
-            Ok(ran) => ran,
-            Err(fault) => return format!(in self.alloc; "{fault}").ok(),
-        };
-        match chart {
-            None => {
-                ran.write_trace(self.alloc, output).ok()?;
-                let verdicts = ran.verdicts(self.alloc).ok()?;
-                output.write_all(verdicts.as_bytes()).ok()?;
-            }
-            Some(choice) => {
-                ran.write_chart(self.alloc, choice, output).ok()?;
-            }
+    /// Draws a script's chart with the events that are chosen, and tells how that ends.
+    fn chart(&self, choice: Choice, output: &mut Output) -> Option<String> {
+        match Simulation::run(self.alloc, self.bytes) {
+            Ok(ran) => match ran.write_chart(self.alloc, choice, output) {
+                Ok(_) => format!(in self.alloc; "0").ok(),
+                Err(_) => None,
+            },
+            Err(fault) => format!(in self.alloc; "{fault}").ok(),
         }
-        format!(in self.alloc; "0").ok()
     }
 
     /// Returns what is written of settings, and how that ends.
@@ -177,23 +226,23 @@ impl<'a> Place<'a> {
 
     /// Runs a client, and tells how it ends.
     fn ask(&self, work: Work, sent: &mut Output, output: &mut Output) -> Option<String> {
-        match work {
-            Work::Ask(question) => {
-                let line = ask_line(self.alloc, question).ok()?;
-                self.talk(line.as_str(), sent, output)
-            }
-            Work::Propose(question, bit) => {
-                let line = propose_line(self.alloc, question, bit).ok()?;
-                self.talk(line.as_str(), sent, output)
-            }
-            _ => self.talk(status_line(), sent, output),
-        }
+        let line = line_of(self.alloc, work).ok()?;
+        self.talk(line.as_str(), sent, output)
     }
 
     /// Returns what a client makes of the reply to its line.
     fn talk(&self, line: &str, sent: &mut Output, output: &mut Output) -> Option<String> {
         let mut reply = Input::new(self.bytes, self.torn);
         ending(self.alloc, talk(self.alloc, line, sent, &mut reply, output))
+    }
+}
+
+/// The line that a client sends: that of `status` unless it asks or proposes.
+fn line_of(alloc: Global, work: Work) -> Result<String, AllocError> {
+    match work {
+        Work::Ask(question) => ask_line(alloc, question),
+        Work::Propose(question, bit) => propose_line(alloc, question, bit),
+        _ => String::from_str(alloc, status_line()),
     }
 }
 
@@ -205,8 +254,9 @@ pub fn ending<F: Display + Drop>(alloc: Global, ended: Result<u8, F>) -> Option<
     }
 }
 
-/// Whether a trace's path or a chart's takes the output.
-pub fn takes(alloc: Global, trace: &str, chart: &str) -> Option<String> {
+/// Returns whether a trace's path or a chart's takes the output.
+pub fn takes(alloc: Global, paths: &str) -> Option<String> {
+    let (trace, chart) = paths.split_once(' ')?;
     format!(in alloc; "{}", takes_output(path_of(trace), path_of(chart))).ok()
 }
 
@@ -220,9 +270,17 @@ fn path_of<'a>(word: &'a str) -> Option<&'a str> {
 
 /// Returns what stands in the output and among the errors, where verdicts are printed, or put
 /// aside.
-pub fn put(alloc: Global, aside: bool, verdicts: &str) -> Option<String> {
+pub fn put(alloc: Global, values: &str) -> Option<String> {
+    let (aside, verdicts) = values.split_once(' ')?;
     let (mut output, mut errors) = (Output::new(alloc), Output::new(alloc));
-    print_verdicts(aside, verdicts, &mut output, &mut errors).ok()?;
+    match print_verdicts(aside == "aside", verdicts, &mut output, &mut errors) {
+        Ok(_) => quoted(alloc, &output, &errors),
+        Err(_) => None,
+    }
+}
+
+/// Returns the output and the errors, in quotes.
+fn quoted(alloc: Global, output: &Output, errors: &Output) -> Option<String> {
     let (output, errors) = (output.text()?, errors.text()?);
     format!(in alloc; "\"{output}\" \"{errors}\"").ok()
 }

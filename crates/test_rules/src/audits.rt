@@ -4,9 +4,10 @@
 //! `end TEXT` the same without the byte that ends it, `bytes HEX` these bytes. `audit` answers what
 //! is written of the text so far, or the fault.
 
+use crate::places::size_in;
 use std::alloc::{AllocError, Global};
 use terms::Size;
-use test_words::{bytes_of, size_of, words_of};
+use test_words::{bytes_of, words_of};
 use transcripts::audit_text;
 
 /// A transcript's text so far.
@@ -29,19 +30,20 @@ impl Audit {
 
     /// Plays a row.
     pub fn told(&mut self, action: &str) -> Option<String> {
-        let (word, rest) = action.split_once(' ').unwrap_or((action, ""));
+        match action.split_once(' ') {
+            Some((word, rest)) => self.worded(word, rest),
+            None => self.worded(action, ""),
+        }
+    }
+
+    /// Plays a row of this word and of the text behind it.
+    fn worded(&mut self, word: &str, rest: &str) -> Option<String> {
         match word {
             "new" => self.begin(rest),
-            "line" => {
-                self.put(rest.as_bytes())?;
-                self.put(b"\n")
-            }
+            "line" => self.put_line(rest),
             "end" => self.put(rest.as_bytes()),
-            "bytes" => {
-                let bytes = bytes_of(self.alloc, rest)?;
-                self.put(&bytes)
-            }
-            "audit" => audited(self.alloc, &self.text, self.size?).ok(),
+            "bytes" => self.put_digits(rest),
+            "audit" => self.audit(),
             _ => None,
         }
     }
@@ -49,18 +51,31 @@ impl Audit {
     /// Begins a text.
     fn begin(&mut self, size: &str) -> Option<String> {
         let words = words_of(self.alloc, size)?;
-        let [n, t, questions] = words.as_slice() else {
-            return None;
-        };
-        self.size = Some(size_of(n, t, questions)?);
+        self.size = Some(size_in(&words)?);
         self.text.clear();
         Some(String::new(self.alloc))
+    }
+
+    /// Puts a line behind the text.
+    fn put_line(&mut self, line: &str) -> Option<String> {
+        self.put(line.as_bytes())?;
+        self.put(b"\n")
+    }
+
+    /// Puts bytes of digits behind the text.
+    fn put_digits(&mut self, digits: &str) -> Option<String> {
+        self.put(&bytes_of(self.alloc, digits)?)
     }
 
     /// Puts bytes behind the text.
     fn put(&mut self, bytes: &[u8]) -> Option<String> {
         self.text.extend_from_slice(bytes).ok()?;
         Some(String::new(self.alloc))
+    }
+    /// Audits the text.
+    fn audit(&self) -> Option<String> {
+        let size = self.size?;
+        audited(self.alloc, &self.text, size).ok()
     }
 }
 

@@ -4,9 +4,9 @@
 //! answers what the member sent, or a dash, and `count N VALUE` how many of n members sent a value.
 ghost use Rattle.std.specs.Prelude.{◌<◌, IfSome};
 
+use crate::places::name_of;
 use std::alloc::Global;
-use terms::Size;
-use test_words::{value_of, words_of};
+use test_words::{size_of, value_of, words_of};
 use votes::Votes;
 
 /// Votes, and whether they are of step 3.
@@ -30,19 +30,18 @@ impl Ballots {
     /// Plays a row.
     pub fn told(&mut self, action: &str) -> Option<String> {
         let words = words_of(self.alloc, action)?;
-        match words.as_slice() {
-            ["none"] => self.begin(false),
-            ["third"] => self.begin(true),
-            ["with", member, value] => {
-                self.votes = self.votes.with(member_of(member)?, value_of(value)?);
-                Some(String::new(self.alloc))
-            }
-            ["value", member] => self.value(member),
-            ["count", n, value] => {
-                let size = Size::new(n.parse().ok()?, 0, 1).ok()?;
-                let count = self.votes.count(size, self.third, value_of(value)?);
-                format!(in self.alloc; "{count}").ok()
-            }
+        let (word, rest) = words.as_slice().split_first()?;
+        self.worded(word, rest)
+    }
+
+    /// Plays a row of this word and of those behind it.
+    fn worded(&mut self, word: &str, rest: &[&str]) -> Option<String> {
+        match (word, rest) {
+            ("none", []) => self.begin(false),
+            ("third", []) => self.begin(true),
+            ("with", rest) => self.add(rest),
+            ("value", rest) => self.value(rest),
+            ("count", rest) => self.count(rest),
             _ => None,
         }
     }
@@ -54,12 +53,31 @@ impl Ballots {
         Some(String::new(self.alloc))
     }
 
+    /// Adds a vote.
+    fn add(&mut self, words: &[&str]) -> Option<String> {
+        let [member, value] = words else {
+            return None;
+        };
+        self.votes = self.votes.with(member_of(member)?, value_of(value)?);
+        Some(String::new(self.alloc))
+    }
+
     /// Returns what a member sent.
-    fn value(&self, member: &str) -> Option<String> {
-        match self.votes.value(self.third, member_of(member)?) {
-            Some(value) => format!(in self.alloc; "{value:?}").ok(),
-            None => format!(in self.alloc; "-").ok(),
-        }
+    fn value(&self, words: &[&str]) -> Option<String> {
+        let [member] = words else {
+            return None;
+        };
+        let value = self.votes.value(self.third, member_of(member)?);
+        name_of(value).to_string(self.alloc).ok()
+    }
+
+    /// Returns how many members sent a value.
+    fn count(&self, words: &[&str]) -> Option<String> {
+        let [n, value] = words else {
+            return None;
+        };
+        let (size, value) = (size_of(n, "0", "1")?, value_of(value)?);
+        format!(in self.alloc; "{}", self.votes.count(size, self.third, value)).ok()
     }
 }
 

@@ -8,11 +8,12 @@
 ghost use Rattle.std.specs.Prelude.{◌≡◌, ◌<◌};
 ghost use Rattle.rbc.specs.Readers.{broadcasts_size};
 
+use crate::places::name_of;
 use rbc::{Broadcasts, Taken};
 use std::alloc::Global;
 use terms::Kind::{Echo, Ready};
 use terms::{Kind, Place, Size, Statement, Value};
-use test_words::{kind_of, value_of, words_of};
+use test_words::{kind_of, size_of, value_of, words_of};
 
 /// The broadcasts, where there are some.
 #[derive(Drop)]
@@ -30,20 +31,31 @@ impl Casts {
     /// Plays a row.
     pub fn told(&mut self, action: &str) -> Option<String> {
         let words = words_of(self.alloc, action)?;
-        match (words.as_slice(), &mut self.cast) {
-            (["at", n, t, step], _) => {
-                let size = Size::new(n.parse().ok()?, t.parse().ok()?, 1).ok()?;
-                self.cast = begin(self.alloc, size, step.parse().ok()?);
-                Some(String::new(self.alloc))
-            }
-            (words, Some(cast)) => cast.told(self.alloc, words),
+        let (word, rest) = words.as_slice().split_first()?;
+        self.worded(word, rest)
+    }
+
+    /// Plays a row of this word and of those behind it.
+    fn worded(&mut self, word: &str, rest: &[&str]) -> Option<String> {
+        match (word, &mut self.cast) {
+            ("at", _) => self.begin(rest),
+            (word, Some(cast)) => cast.told(self.alloc, word, rest),
             (_, None) => None,
         }
+    }
+
+    /// Begins at a place.
+    fn begin(&mut self, words: &[&str]) -> Option<String> {
+        let [n, t, step] = words else {
+            return None;
+        };
+        self.cast = unheard(self.alloc, size_of(n, t, "1")?, step.parse().ok()?);
+        Some(String::new(self.alloc))
     }
 }
 
 /// Nothing was heard yet at the place of that step, in a cluster of that size.
-fn begin(alloc: Global, size: Size, step: u8) -> Option<Cast> {
+fn unheard(alloc: Global, size: Size, step: u8) -> Option<Cast> {
     let Some(place) = Place::new(0, 0, 1, step) else {
         return None;
     };
@@ -69,31 +81,19 @@ struct Cast {
 }
 
 impl Cast {
-    /// Plays a row of these words.
-    fn told(&mut self, alloc: Global, words: &[&str]) -> Option<String> {
-        match words {
-            ["hear", from, kind, value] => self.hear(
-                alloc,
-                from.parse().ok()?,
-                kind_of(kind)?,
-                value_of(value)?,
-            ),
-            ["say", kind, value] => {
-                self.say(kind_of(kind)?, value_of(value)?)?;
-                self.state(alloc)
-            }
-            ["receive", from, kind, value] => self.bring(
-                alloc,
-                from.parse().ok()?,
-                kind_of(kind)?,
-                value_of(value)?,
-            ),
+    /// Plays a row of this word and of those behind it.
+    fn told(&mut self, alloc: Global, word: &str, rest: &[&str]) -> Option<String> {
+        match word {
+            "hear" => self.hear(alloc, rest),
+            "say" => self.tell(alloc, rest),
+            "receive" => self.bring(alloc, rest),
             _ => None,
         }
     }
 
     /// Hears a statement.
-    fn hear(&mut self, alloc: Global, from: u8, kind: Kind, value: Value) -> Option<String> {
+    fn hear(&mut self, alloc: Global, words: &[&str]) -> Option<String> {
+        let (from, kind, value) = heard_of(words)?;
         let Some(said) = Statement::new(kind, self.place, value) else {
             return None;
         };
@@ -103,6 +103,15 @@ impl Cast {
         let heard = self.broadcasts.hear(from, &said).ok()?;
         let state = self.state(alloc)?;
         format!(in alloc; "{heard:?} {state}").ok()
+    }
+
+    /// Says a statement, and answers what then stands.
+    fn tell(&mut self, alloc: Global, words: &[&str]) -> Option<String> {
+        let [kind, value] = words else {
+            return None;
+        };
+        self.say(kind_of(kind)?, value_of(value)?)?;
+        self.state(alloc)
     }
 
     /// Returns what stands at the place.
@@ -117,8 +126,8 @@ impl Cast {
     }
 
     /// Receives a statement, and says what is due for it.
-    fn bring(&mut self, alloc: Global, from: u8, kind: Kind, value: Value) -> Option<String> {
-        match self.receive(from, kind, value)? {
+    fn bring(&mut self, alloc: Global, words: &[&str]) -> Option<String> {
+        match self.receive(words)? {
             Taken::News(brought) => {
                 if let Some(echo) = brought.due.echo {
                     self.say(Echo, echo)?;
@@ -135,7 +144,8 @@ impl Cast {
     }
 
     /// Receives a statement.
-    fn receive(&mut self, from: u8, kind: Kind, value: Value) -> Option<Taken> {
+    fn receive(&mut self, words: &[&str]) -> Option<Taken> {
+        let (from, kind, value) = heard_of(words)?;
         let Some(said) = Statement::new(kind, self.place, value) else {
             return None;
         };
@@ -154,6 +164,17 @@ impl Cast {
     }
 }
 
+/// Returns the sender, the kind and the value of three words.
+fn heard_of(words: &[&str]) -> Option<(u8, Kind, Value)> {
+    let [from, kind, value] = words else {
+        return None;
+    };
+    let (Ok(from), Some(kind), Some(value)) = (from.parse(), kind_of(kind), value_of(value)) else {
+        return None;
+    };
+    Some((from, kind, value))
+}
+
 /// The names of three values.
 fn names(
     alloc: Global,
@@ -161,18 +182,6 @@ fn names(
     ready: Option<Value>,
     accepted: Option<Value>,
 ) -> Option<String> {
-    let (echo, ready, accepted) = (
-        name(alloc, echo)?,
-        name(alloc, ready)?,
-        name(alloc, accepted)?,
-    );
+    let (echo, ready, accepted) = (name_of(echo), name_of(ready), name_of(accepted));
     format!(in alloc; "{echo} {ready} {accepted}").ok()
-}
-
-/// A value's name, or a dash.
-fn name(alloc: Global, value: Option<Value>) -> Option<String> {
-    match value {
-        Some(value) => format!(in alloc; "{value:?}").ok(),
-        None => format!(in alloc; "-").ok(),
-    }
 }

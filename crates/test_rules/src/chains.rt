@@ -9,31 +9,102 @@
 
 use chain::{Ask, Chain, Known, Slot, seed_of};
 use std::alloc::Global;
-use terms::Size;
-use test_words::{bytes_of, words_of};
+use test_words::{bytes_of, size_of, words_of};
 
 /// Plays a row.
 pub fn told(alloc: Global, action: &str) -> Option<String> {
     let words = words_of(alloc, action)?;
-    match words.as_slice() {
-        ["slot", first, questions, number] => {
-            slot_text(alloc, &chain_of(first, questions)?, number.parse().ok()?)
-        }
-        ["number", questions, epoch, question] => {
-            let slot = Slot {
-                epoch: epoch.parse().ok()?,
-                question: question.parse().ok()?,
-            };
-            number_or(alloc, chain_of("0", questions)?.number_of(slot), "none")
-        }
-        ["epoch", first, cluster] => {
-            let epoch = chain_of(first, "1")?.epoch_of(cluster.parse().ok()?);
-            number_or(alloc, epoch, "none")
-        }
-        ["route", rest @ ..] => routed(alloc, rest),
-        ["seed", digits, epoch] => seed_text(alloc, digits, epoch.parse().ok()?),
+    let (word, rest) = words.as_slice().split_first()?;
+    worded(alloc, word, rest)
+}
+
+/// Plays a row of this word and of those behind it.
+fn worded(alloc: Global, word: &str, rest: &[&str]) -> Option<String> {
+    match word {
+        "slot" => slot(alloc, rest),
+        "number" => number(alloc, rest),
+        "epoch" => epoch(alloc, rest),
+        "route" => route(alloc, rest),
+        "seed" => seed(alloc, rest),
         _ => None,
     }
+}
+
+/// Plays a row of a greeting.
+fn route(alloc: Global, words: &[&str]) -> Option<String> {
+    let [n, t, known @ .., cluster] = words else {
+        return None;
+    };
+    let chain = Chain::new(7, size_of(n, t, "1")?);
+    routed(alloc, &chain, cluster.parse().ok()?, known)
+}
+
+/// The open epoch of a cluster, by what is known of the others.
+fn routed(alloc: Global, chain: &Chain, cluster: u64, known: &[&str]) -> Option<String> {
+    let [newest, undone, asks] = known else {
+        return None;
+    };
+    let newest = newest.parse().ok()?;
+    let undone = epochs_of(alloc, undone)?;
+    let asks = asks_of(alloc, asks)?;
+    let known = Known {
+        newest,
+        undone: &undone,
+        asks: &asks,
+    };
+    number_or(alloc, chain.route(&known, cluster), "nobody")
+}
+
+/// The epochs of a list.
+fn epochs_of(alloc: Global, list: &str) -> Option<Vec<u64>> {
+    if list == "-" {
+        return Some(Vec::new(alloc));
+    }
+    let mut epochs = Vec::new(alloc);
+    for word in list.split(',') {
+        epochs.push(word.parse().ok()?).ok()?;
+    }
+    Some(epochs)
+}
+
+/// The asks of a list.
+fn asks_of(alloc: Global, list: &str) -> Option<Vec<Ask>> {
+    if list == "-" {
+        return Some(Vec::new(alloc));
+    }
+    let mut asks = Vec::new(alloc);
+    for word in list.split(',') {
+        asks.push(ask_of(word)?).ok()?;
+    }
+    Some(asks)
+}
+
+/// The member and the epoch of a word.
+fn ask_of(word: &str) -> Option<Ask> {
+    let (peer, epoch) = word.split_once(':')?;
+    let (Ok(peer), Ok(epoch)) = (peer.parse(), epoch.parse()) else {
+        return None;
+    };
+    Some(Ask { peer, epoch })
+}
+
+/// Plays a row of an epoch's seed.
+fn seed(alloc: Global, words: &[&str]) -> Option<String> {
+    let [digits, epoch] = words else {
+        return None;
+    };
+    let epoch = epoch.parse().ok()?;
+    let bytes = bytes_of(alloc, digits)?;
+    let seed: [u8; 32] = bytes.as_slice().try_into().ok()?;
+    hex::encode(alloc, seed_of(&seed, epoch).as_slice()).ok()
+}
+
+/// Plays a row of a slot.
+fn slot(alloc: Global, words: &[&str]) -> Option<String> {
+    let [first, questions, number] = words else {
+        return None;
+    };
+    slot_text(alloc, &chain_of(first, questions)?, number.parse().ok()?)
 }
 
 /// The slot with this number, its cluster, and its number again.
@@ -44,67 +115,30 @@ fn slot_text(alloc: Global, chain: &Chain, number: u64) -> Option<String> {
     format!(in alloc; "{} {} {cluster} {again}", slot.epoch, slot.question).ok()
 }
 
+/// Plays a row of a slot's number.
+fn number(alloc: Global, words: &[&str]) -> Option<String> {
+    let [questions, epoch, question] = words else {
+        return None;
+    };
+    let (Ok(epoch), Ok(question)) = (epoch.parse(), question.parse()) else {
+        return None;
+    };
+    let slot = Slot { epoch, question };
+    number_or(alloc, chain_of("0", questions)?.number_of(slot), "none")
+}
+
+/// Plays a row of an epoch.
+fn epoch(alloc: Global, words: &[&str]) -> Option<String> {
+    let [first, cluster] = words else {
+        return None;
+    };
+    let epoch = chain_of(first, "1")?.epoch_of(cluster.parse().ok()?);
+    number_or(alloc, epoch, "none")
+}
+
 /// A chain of four members.
 fn chain_of(first: &str, questions: &str) -> Option<Chain> {
-    let size = Size::new(4, 1, questions.parse().ok()?).ok()?;
-    Some(Chain::new(first.parse().ok()?, size))
-}
-
-/// Plays a row of a greeting.
-fn routed(alloc: Global, words: &[&str]) -> Option<String> {
-    match words {
-        [n, t, newest, undone, asks, cluster] => {
-            let size = Size::new(n.parse().ok()?, t.parse().ok()?, 1).ok()?;
-            let undone = epochs_of(alloc, undone)?;
-            let asks = asks_of(alloc, asks)?;
-            let known = Known {
-                newest: newest.parse().ok()?,
-                undone: &undone,
-                asks: &asks,
-            };
-            route_text(alloc, size, &known, cluster.parse().ok()?)
-        }
-        _ => None,
-    }
-}
-
-/// The epochs of a list.
-fn epochs_of(alloc: Global, list: &str) -> Option<Vec<u64>> {
-    let mut epochs = Vec::new(alloc);
-    if list == "-" {
-        return Some(epochs);
-    }
-    for word in list.split(',') {
-        epochs.push(word.parse().ok()?).ok()?;
-    }
-    Some(epochs)
-}
-
-/// The asks of a list.
-fn asks_of(alloc: Global, list: &str) -> Option<Vec<Ask>> {
-    let mut asks = Vec::new(alloc);
-    if list == "-" {
-        return Some(asks);
-    }
-    for word in list.split(',') {
-        asks.push(ask_of(word)?).ok()?;
-    }
-    Some(asks)
-}
-
-/// The member and the epoch of a word.
-fn ask_of(word: &str) -> Option<Ask> {
-    let (peer, epoch) = word.split_once(':')?;
-    Some(Ask {
-        peer: peer.parse().ok()?,
-        epoch: epoch.parse().ok()?,
-    })
-}
-
-/// The epoch to which a greeting goes.
-fn route_text(alloc: Global, size: Size, known: &Known<'_>, cluster: u64) -> Option<String> {
-    let chain = Chain::new(7, size);
-    number_or(alloc, chain.route(known, cluster), "nobody")
+    Some(Chain::new(first.parse().ok()?, size_of("4", "1", questions)?))
 }
 
 /// A number, or this word.
@@ -113,11 +147,4 @@ fn number_or(alloc: Global, number: Option<u64>, word: &str) -> Option<String> {
         Some(number) => format!(in alloc; "{number}").ok(),
         None => format!(in alloc; "{word}").ok(),
     }
-}
-
-/// The seed of an epoch.
-fn seed_text(alloc: Global, digits: &str, epoch: u64) -> Option<String> {
-    let bytes = bytes_of(alloc, digits)?;
-    let seed: [u8; 32] = bytes.as_slice().try_into().ok()?;
-    hex::encode(alloc, seed_of(&seed, epoch).as_slice()).ok()
 }

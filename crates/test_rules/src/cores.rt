@@ -24,33 +24,34 @@ impl Cores {
 
     /// Plays a row.
     pub fn told(&mut self, action: &str) -> Option<String> {
-        let alloc = self.alloc;
-        let words = words_of(alloc, action)?;
-        match (words.as_slice(), &mut self.core) {
-            (["core", n, t, questions, me, records @ ..], _) => {
-                let records = records_of(alloc, records)?;
-                self.open(size_of(n, t, questions)?, me.parse().ok()?, &records)
-            }
-            (["propose", question, bit, toss], Some(core)) => {
-                let (question, toss) = (question.parse().ok()?, toss_of(alloc, toss)?);
-                told_of(alloc, core.propose(question, *bit == "1", toss))
-            }
-            (["hear", from, frame, toss], Some(core)) => {
-                let said = statement_of(alloc, Size::new(64, 0, 4096).ok()?, frame)?;
-                let (from, toss) = (from.parse().ok()?, toss_of(alloc, toss)?);
-                told_of(alloc, core.hear(from, &said, toss))
-            }
-            (["verdict", question], Some(core)) => {
-                verdict_text(alloc, core.verdict(question.parse().ok()?))
-            }
-            _ => None,
+        let words = words_of(self.alloc, action)?;
+        let (word, rest) = words.as_slice().split_first()?;
+        self.worded(word, rest)
+    }
+
+    /// Plays a row of this word and of those behind it.
+    fn worded(&mut self, word: &str, rest: &[&str]) -> Option<String> {
+        match (word, &mut self.core) {
+            ("core", _) => self.begin(rest),
+            (word, Some(core)) => asked(self.alloc, core, word, rest),
+            (_, None) => None,
         }
     }
 
-    /// Opens a core.
-    fn open(&mut self, size: Size, me: u8, records: &[Record]) -> Option<String> {
+    /// Opens a core of these words.
+    fn begin(&mut self, words: &[&str]) -> Option<String> {
+        let [n, t, questions, me, records @ ..] = words else {
+            return None;
+        };
+        let size = size_of(n, t, questions)?;
+        self.open(size, me.parse().ok()?, records)
+    }
+
+    /// Opens a core of these records.
+    fn open(&mut self, size: Size, me: u8, records: &[&str]) -> Option<String> {
+        let records = records_of(self.alloc, records)?;
         self.core = None;
-        match Core::new(self.alloc, size, me, records) {
+        match Core::new(self.alloc, size, me, &records) {
             Ok(core) => {
                 self.core = Some(core);
                 Some(String::new(self.alloc))
@@ -58,6 +59,39 @@ impl Cores {
             Err(fault) => format!(in self.alloc; "{fault}").ok(),
         }
     }
+}
+
+/// Plays a row of what a core is asked.
+fn asked(alloc: Global, core: &mut Core, word: &str, rest: &[&str]) -> Option<String> {
+    match word {
+        "propose" => proposed(alloc, core, rest),
+        "hear" => heard(alloc, core, rest),
+        "verdict" => verdict_text(alloc, core, rest),
+        _ => None,
+    }
+}
+
+/// Proposes a bit.
+fn proposed(alloc: Global, core: &mut Core, words: &[&str]) -> Option<String> {
+    let [question, bit, toss] = words else {
+        return None;
+    };
+    let (Ok(question), Some(toss)) = (question.parse(), toss_of(alloc, toss)) else {
+        return None;
+    };
+    told_of(alloc, core.propose(question, *bit == "1", toss))
+}
+
+/// Hears a statement.
+fn heard(alloc: Global, core: &mut Core, words: &[&str]) -> Option<String> {
+    let [from, frame, toss] = words else {
+        return None;
+    };
+    let (Ok(from), Some(toss)) = (from.parse(), toss_of(alloc, toss)) else {
+        return None;
+    };
+    let said = statement_of(alloc, size_of("64", "0", "4096")?, frame)?;
+    told_of(alloc, core.hear(from, &said, toss))
 }
 
 /// The records of these words.
@@ -78,8 +112,11 @@ fn told_of(alloc: Global, answer: Result<Answer, CoreFault>) -> Option<String> {
 }
 
 /// Returns what is said of a decision.
-fn verdict_text(alloc: Global, verdict: Option<(u8, bool)>) -> Option<String> {
-    match verdict {
+fn verdict_text(alloc: Global, core: &Core, words: &[&str]) -> Option<String> {
+    let [question] = words else {
+        return None;
+    };
+    match core.verdict(question.parse().ok()?) {
         Some((round, bit)) => format!(in alloc; "{round} {}", u8::from(bit)).ok(),
         None => format!(in alloc; "none").ok(),
     }

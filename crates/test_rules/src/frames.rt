@@ -8,9 +8,10 @@
 //! VALUE` answers a statement's frame, and `several` with six words for each statement the frame of
 //! several, or `back`.
 
-use std::alloc::Global;
-use terms::{Memory, Place, Size, Statement};
-use test_words::{bytes_of, kind_of, size_of, value_of, words_of};
+use crate::places::{size_in, statement_of};
+use std::alloc::{AllocError, Global};
+use terms::{Memory, Size, Statement};
+use test_words::{bytes_of, words_of};
 use wire::{Fed, Feeder, Many, Message, Version, encode};
 
 /// A cluster's streams.
@@ -29,62 +30,33 @@ impl Stream {
     /// Plays a row.
     pub fn told(&mut self, action: &str) -> Option<String> {
         let words = words_of(self.alloc, action)?;
-        match words.as_slice() {
-            ["size", n, t, questions] => {
-                self.size = Some(size_of(n, t, questions)?);
-                Some(String::new(self.alloc))
-            }
-            ["encode", statement @ ..] => {
-                let statement = statement_of(statement)?;
-                frame_of(self.alloc, &Message::Statement(statement))
-            }
-            ["several", statements @ ..] => {
-                let items = statements_of(self.alloc, statements)?;
-                frame_of_several(self.alloc, items)
-            }
-            [digits] => {
-                let bytes = bytes_of(self.alloc, digits)?;
-                however_cut(self.alloc, self.size?, &bytes).ok()
-            }
+        let (word, rest) = words.as_slice().split_first()?;
+        self.worded(word, rest)
+    }
+
+    /// Plays a row of this word and of those behind it.
+    fn worded(&mut self, word: &str, rest: &[&str]) -> Option<String> {
+        match (word, rest) {
+            ("size", rest) => self.begin(rest),
+            ("encode", rest) => encoded(self.alloc, rest),
+            ("several", rest) => several(self.alloc, rest),
+            (digits, []) => self.read(digits),
             _ => None,
         }
     }
-}
 
-/// The statements that the words say, six words each.
-fn statements_of(alloc: Global, words: &[&str]) -> Option<Vec<Statement>> {
-    let mut items = Vec::new(alloc);
-    for six in words.chunks(6) {
-        items.push(statement_of(six)?).ok()?;
+    /// Begins with a cluster of that size.
+    fn begin(&mut self, words: &[&str]) -> Option<String> {
+        self.size = Some(size_in(words)?);
+        Some(String::new(self.alloc))
     }
-    Some(items)
-}
 
-/// The statement that six words say.
-fn statement_of(words: &[&str]) -> Option<Statement> {
-    match words {
-        [kind, question, origin, round, step, value] => {
-            let (question, origin) = (question.parse().ok()?, origin.parse().ok()?);
-            let place = Place::new(question, origin, round.parse().ok()?, step.parse().ok()?)?;
-            Statement::new(kind_of(kind)?, place, value_of(value)?)
-        }
-        _ => None,
+    /// Returns what a feeder tells of bytes.
+    fn read(&self, digits: &str) -> Option<String> {
+        let size = self.size?;
+        let bytes = bytes_of(self.alloc, digits)?;
+        however_cut(self.alloc, size, &bytes).ok()
     }
-}
-
-/// The frame of these statements, or `back` where they are too few or too many for one.
-fn frame_of_several(alloc: Global, items: Vec<Statement>) -> Option<String> {
-    match Many::new(items) {
-        Ok(many) => frame_of(alloc, &Message::Statements(many)),
-        Err(_) => "back".to_string(alloc).ok(),
-    }
-}
-
-/// The frame of a message.
-fn frame_of(alloc: Global, message: &Message) -> Option<String> {
-    let mut bytes = Vec::new(alloc);
-    encode(message, &mut bytes).ok()?;
-    hex::encode(alloc, &bytes).ok()
 }
 
 /// Returns what a feeder tells of the bytes, if it tells the same however they are cut.
@@ -130,35 +102,33 @@ fn in_pieces(
 fn shown(alloc: Global, messages: &[Message], fed: Fed) -> Result<String, Memory> {
     let mut text = String::new(alloc);
     for message in messages {
-        text.push_str(message_text(alloc, message)?.as_str())?;
+        let words = message_text(alloc, message)?;
+        text.push_str(words.as_str())?;
         text.push_str(", ")?;
     }
-    let end = match fed {
-        Fed::More => format!(in alloc; "More")?,
-        Fed::Broken(fault) => format!(in alloc; "{fault}")?,
-    };
+    let end = end_text(alloc, fed)?;
     text.push_str(end.as_str())?;
     Ok(text)
 }
 
 /// A message in words.
-fn message_text(alloc: Global, message: &Message) -> Result<String, Memory> {
+fn message_text(alloc: Global, message: &Message) -> Result<String, AllocError> {
     match message {
-        Message::Idle => Ok("Idle".to_string(alloc)?),
-        Message::Welcome { next } => Ok(format!(in alloc; "Welcome {next}")?),
+        Message::Idle => "Idle".to_string(alloc),
+        Message::Welcome { next } => format!(in alloc; "Welcome {next}"),
         Message::Hello {
             version,
             cluster,
             size,
             from,
             to,
-        } => Ok(format!(in alloc;
+        } => format!(in alloc;
             "{} {cluster} {} {} {} {from} {to}",
             hello_name(*version),
             size.n(),
             size.t(),
             size.questions()
-        )?),
+        ),
         Message::Statement(said) => statement_text(alloc, *said),
         Message::Statements(several) => several_text(alloc, several.as_slice()),
     }
@@ -173,7 +143,7 @@ fn hello_name(version: Version) -> &'static str {
 }
 
 /// Several statements in words, in brackets and with a semicolon between them.
-fn several_text(alloc: Global, several: &[Statement]) -> Result<String, Memory> {
+fn several_text(alloc: Global, several: &[Statement]) -> Result<String, AllocError> {
     let mut text = "(".to_string(alloc)?;
     for said in several {
         if text.len() > 1 {
@@ -185,16 +155,40 @@ fn several_text(alloc: Global, several: &[Statement]) -> Result<String, Memory> 
     Ok(text)
 }
 
+/// The frame of the statements that the words say, or `back` where they are too few or too many.
+fn several(alloc: Global, words: &[&str]) -> Option<String> {
+    match Many::new(statements_of(alloc, words)?) {
+        Ok(many) => frame_of(alloc, &Message::Statements(many)),
+        Err(_) => "back".to_string(alloc).ok(),
+    }
+}
+
+/// The statements that the words say, six words each.
+fn statements_of(alloc: Global, words: &[&str]) -> Option<Vec<Statement>> {
+    let mut items = Vec::new(alloc);
+    for six in words.chunks(6) {
+        items.push(statement_of(six)?).ok()?;
+    }
+    Some(items)
+}
+
 /// A statement in words.
-fn statement_text(alloc: Global, said: Statement) -> Result<String, Memory> {
+fn statement_text(alloc: Global, said: Statement) -> Result<String, AllocError> {
     let place = said.place();
     let (kind, value) = (said.kind(), said.value());
     let (question, origin, round) = (place.question(), place.origin(), place.round());
-    let text = format!(in alloc;
+    format!(in alloc;
         "{kind:?} {question} {origin} {round} {} {value:?}",
         place.step()
-    )?;
-    Ok(text)
+    )
+}
+
+/// Returns how a stream ends.
+fn end_text(alloc: Global, fed: Fed) -> Result<String, AllocError> {
+    match fed {
+        Fed::More => "More".to_string(alloc),
+        Fed::Broken(fault) => format!(in alloc; "{fault}"),
+    }
 }
 
 /// Whether the messages that are read of the bytes are encoded as the bytes begin.
@@ -206,4 +200,17 @@ fn is_spelled(alloc: Global, size: Size, bytes: &[u8]) -> Result<bool, Memory> {
         encode(message, &mut again)?;
     }
     Ok(bytes.starts_with(&again))
+}
+
+/// The frame of the statement that the words say.
+fn encoded(alloc: Global, words: &[&str]) -> Option<String> {
+    let said = statement_of(words)?;
+    frame_of(alloc, &Message::Statement(said))
+}
+
+/// The frame of a message.
+fn frame_of(alloc: Global, message: &Message) -> Option<String> {
+    let mut bytes = Vec::new(alloc);
+    encode(message, &mut bytes).ok()?;
+    hex::encode(alloc, &bytes).ok()
 }

@@ -9,6 +9,7 @@ pub mod chains;
 mod cores;
 mod frames;
 pub mod numbers;
+mod places;
 mod steps;
 
 pub use audits::Audit;

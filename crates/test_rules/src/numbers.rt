@@ -5,10 +5,11 @@
 //! alone. `place`, `statement` and `header` give back what they were made of. `number`, `number16`,
 //! `number8`, `bytes`, `byte`, `split` and `is` read a text in quotes.
 
+use crate::places::{place_of, statement_of};
 use numerals::{byte, bytes, is, number, number8, number16, size_from, split_at_space};
 use std::alloc::{AllocError, Global};
 use terms::{Header, Place, Size, SizeFault, Statement};
-use test_words::{bytes_of, kind_of, value_of, words_of};
+use test_words::{bytes_of, size_of, words_of};
 
 /// Plays a row.
 pub fn told(alloc: Global, action: &str) -> Option<String> {
@@ -16,28 +17,9 @@ pub fn told(alloc: Global, action: &str) -> Option<String> {
         return quoted(alloc, word, rest);
     }
     let words = words_of(alloc, action)?;
-    match words.as_slice() {
-        ["size", n, t, questions] => {
-            let size = Size::new(n.parse().ok()?, t.parse().ok()?, questions.parse().ok()?);
-            size_text(alloc, size).ok()
-        }
-        ["wide", n, t, questions] => {
-            let size = size_from(n.parse().ok()?, t.parse().ok()?, questions.parse().ok()?);
-            size_text(alloc, size).ok()
-        }
-        ["place", place @ ..] => or_none(alloc, place_text(alloc, place_of(place)?).ok()),
-        ["statement", kind, question, origin, round, step, value] => {
-            statement_text(alloc, kind, &[*question, *origin, *round, *step], value)
-        }
-        ["header", cluster, n, t, questions, me] => {
-            let size = Size::new(n.parse().ok()?, t.parse().ok()?, questions.parse().ok()?).ok()?;
-            header_text(alloc, cluster, size, me)
-        }
-        ["digits", word, digits] => {
-            let text = bytes_of(alloc, digits)?;
-            read(alloc, word, &text)
-        }
-        _ => None,
+    match words.as_slice().split_first() {
+        Some((word, rest)) => worded(alloc, word, rest),
+        None => None,
     }
 }
 
@@ -58,6 +40,65 @@ fn split_text(alloc: Global, text: &[u8]) -> Option<String> {
     let before = String::from_utf8(Vec::from_slice(alloc, before).ok()?).ok()?;
     let behind = String::from_utf8(Vec::from_slice(alloc, behind).ok()?).ok()?;
     format!(in alloc; "\"{before}\" \"{behind}\"").ok()
+}
+
+/// Plays a row of this word and of those behind it.
+fn worded(alloc: Global, word: &str, rest: &[&str]) -> Option<String> {
+    match word {
+        "size" => size(alloc, rest),
+        "wide" => wide(alloc, rest),
+        "place" => place(alloc, rest),
+        "statement" => statement(alloc, rest),
+        "header" => header(alloc, rest),
+        "digits" => digits(alloc, rest),
+        _ => None,
+    }
+}
+
+/// Plays a row of a size of larger numbers.
+fn wide(alloc: Global, words: &[&str]) -> Option<String> {
+    let [n, t, questions] = words else {
+        return None;
+    };
+    let (Ok(n), Ok(t), Ok(questions)) = (n.parse(), t.parse(), questions.parse()) else {
+        return None;
+    };
+    size_text(alloc, size_from(n, t, questions)).ok()
+}
+
+/// Plays a row of a statement.
+fn statement(alloc: Global, words: &[&str]) -> Option<String> {
+    let said = statement_of(words)?;
+    let place = place_text(alloc, said.place()).ok()?;
+    let (kind, value) = (said.kind(), said.value());
+    format!(in alloc; "{kind:?} {place} {value:?}").ok()
+}
+
+/// Plays a row of a header.
+fn header(alloc: Global, words: &[&str]) -> Option<String> {
+    let header = header_of(words)?;
+    let (cluster, size, me) = (header.cluster(), header.size(), header.me());
+    let (n, t, questions) = (size.n(), size.t(), size.questions());
+    format!(in alloc; "{cluster} {n} {t} {questions} {me}").ok()
+}
+
+/// Returns the header of these words.
+fn header_of(words: &[&str]) -> Option<Header> {
+    let [cluster, n, t, questions, me] = words else {
+        return None;
+    };
+    let (Ok(cluster), Ok(me)) = (cluster.parse(), me.parse()) else {
+        return None;
+    };
+    Header::new(cluster, size_of(n, t, questions)?, me)
+}
+
+/// Plays a row of a word and the digits of a text.
+fn digits(alloc: Global, words: &[&str]) -> Option<String> {
+    let [word, digits] = words else {
+        return None;
+    };
+    read(alloc, word, &bytes_of(alloc, digits)?)
 }
 
 /// Returns what is read of a text in quotes.
@@ -84,6 +125,17 @@ fn number_text(alloc: Global, number: Option<u64>) -> Option<String> {
     }
 }
 
+/// Plays a row of a size.
+fn size(alloc: Global, words: &[&str]) -> Option<String> {
+    let [n, t, questions] = words else {
+        return None;
+    };
+    let (Ok(n), Ok(t), Ok(questions)) = (n.parse(), t.parse(), questions.parse()) else {
+        return None;
+    };
+    size_text(alloc, Size::new(n, t, questions)).ok()
+}
+
 /// A size's numbers and thresholds, or the fault.
 fn size_text(alloc: Global, size: Result<Size, SizeFault>) -> Result<String, AllocError> {
     match size {
@@ -97,35 +149,9 @@ fn size_text(alloc: Global, size: Result<Size, SizeFault>) -> Result<String, All
     }
 }
 
-/// A text, or `none`.
-fn or_none(alloc: Global, text: Option<String>) -> Option<String> {
-    match text {
-        Some(text) => Some(text),
-        None => "none".to_string(alloc).ok(),
-    }
-}
-
-/// Returns what a statement of these words gives back.
-fn statement_text(alloc: Global, kind: &str, place: &[&str], value: &str) -> Option<String> {
-    let said = Statement::new(kind_of(kind)?, place_of(place)?, value_of(value)?)?;
-    let place = place_text(alloc, said.place()).ok()?;
-    let (kind, value) = (said.kind(), said.value());
-    format!(in alloc; "{kind:?} {place} {value:?}").ok()
-}
-
-/// The place of these words.
-fn place_of(words: &[&str]) -> Option<Place> {
-    match words {
-        [question, origin, round, step] => {
-            Place::new(
-                question.parse().ok()?,
-                origin.parse().ok()?,
-                round.parse().ok()?,
-                step.parse().ok()?,
-            )
-        }
-        _ => None,
-    }
+/// Plays a row of a place.
+fn place(alloc: Global, words: &[&str]) -> Option<String> {
+    place_text(alloc, place_of(words)?).ok()
 }
 
 /// Returns what a place of these numbers gives back.
@@ -137,12 +163,4 @@ fn place_text(alloc: Global, place: Place) -> Result<String, AllocError> {
         place.step(),
     );
     format!(in alloc; "{question} {origin} {round} {step}")
-}
-
-/// Returns what a header of these words gives back.
-fn header_text(alloc: Global, cluster: &str, size: Size, me: &str) -> Option<String> {
-    let header = Header::new(cluster.parse().ok()?, size, me.parse().ok()?)?;
-    let (cluster, size, me) = (header.cluster(), header.size(), header.me());
-    let (n, t, questions) = (size.n(), size.t(), size.questions());
-    format!(in alloc; "{cluster} {n} {t} {questions} {me}").ok()
 }

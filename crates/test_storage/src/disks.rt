@@ -8,9 +8,10 @@
 //! and `crash fill BYTE` are a crash. `look` takes the fuse out, and answers all bytes; `fused`
 //! answers whether a fuse is in, and `empty` whether there is no byte.
 
+use crate::values::pick_named;
 use disk::{DeviceFault, Disk, MemDisk};
 use std::alloc::Global;
-use test_words::{bytes_of, pick_of, words_of};
+use test_words::bytes_of;
 
 /// A disk, where there is one.
 #[derive(Drop)]
@@ -27,52 +28,50 @@ impl Disks {
 
     /// Plays a row.
     pub fn told(&mut self, action: &str) -> Option<String> {
-        let words = words_of(self.alloc, action)?;
-        match words.as_slice() {
-            ["new"] => self.put(MemDisk::new(self.alloc)),
-            ["crash", pick @ ..] => {
-                let left = self.disk.take()?.crash(pick_of(pick)?).ok()?;
-                self.put(left)
-            }
-            ["fuse", calls] => {
-                let calls = match *calls {
-                    "out" => None,
-                    calls => Some(calls.parse().ok()?),
-                };
-                self.disk.as_mut()?.fuse(calls);
-                Some(String::new(self.alloc))
-            }
-            words => call(self.alloc, self.disk.as_mut()?, words),
+        match action.split_once(' ') {
+            Some((word, rest)) => self.given(word, rest),
+            None => self.plain(action),
         }
     }
 
-    /// Has the disk be another.
+    /// Plays a row of a word and values.
+    fn given(&mut self, word: &str, values: &str) -> Option<String> {
+        match word {
+            "crash" => self.crash(values),
+            word => call(self.alloc, self.disk.as_mut()?, word, values),
+        }
+    }
+
+    /// Puts in what a crash leaves of the disk.
+    fn crash(&mut self, pick: &str) -> Option<String> {
+        let pick = pick_named(self.alloc, pick)?;
+        let left = self.disk.take()?.crash(pick).ok()?;
+        self.put(left)
+    }
+
+    /// Plays a row of one word.
+    fn plain(&mut self, word: &str) -> Option<String> {
+        match word {
+            "new" => self.put(MemDisk::new(self.alloc)),
+            word => asked(self.alloc, self.disk.as_mut()?, word),
+        }
+    }
+
+    /// Puts in another disk.
     fn put(&mut self, disk: MemDisk) -> Option<String> {
         self.disk = Some(disk);
         Some(String::new(self.alloc))
     }
 }
 
-/// Returns what a disk answers to these words.
-fn call(alloc: Global, disk: &mut MemDisk, words: &[&str]) -> Option<String> {
-    match words {
-        ["len"] => len_text(alloc, disk),
-        ["read", place, count] => {
-            read_text(alloc, disk, place.parse().ok()?, count.parse().ok()?)
-        }
-        ["write", place] => told_of(alloc, write(disk, place.parse().ok()?, &[])),
-        ["write", place, digits] => {
-            let bytes = bytes_of(alloc, digits)?;
-            told_of(alloc, write(disk, place.parse().ok()?, &bytes))
-        }
-        ["many", count, digits] => {
-            let bytes = bytes_of(alloc, digits)?;
-            append_many(alloc, disk, count.parse().ok()?, &bytes)
-        }
-        ["sync"] => told_of(alloc, disk.sync().map(|_| Came::Well)),
-        ["look"] => all_text(alloc, disk),
-        ["fused"] => format!(in alloc; "{}", disk.is_fused()).ok(),
-        ["empty"] => format!(in alloc; "{}", disk.is_empty()).ok(),
+/// Returns what a disk answers to a word.
+fn asked(alloc: Global, disk: &mut MemDisk, word: &str) -> Option<String> {
+    match word {
+        "len" => len_text(alloc, disk),
+        "sync" => told_of(alloc, disk.sync().map(|_| Came::Well)),
+        "look" => all_text(alloc, disk),
+        "fused" => format!(in alloc; "{}", disk.is_fused()).ok(),
+        "empty" => format!(in alloc; "{}", disk.is_empty()).ok(),
         _ => None,
     }
 }
@@ -83,6 +82,43 @@ fn len_text(alloc: Global, disk: &mut MemDisk) -> Option<String> {
         Ok(len) => format!(in alloc; "{len}").ok(),
         Err(_) => told_of(alloc, Ok(Came::Failed)),
     }
+}
+
+/// All bytes. The fuse is out then.
+fn all_text(alloc: Global, disk: &mut MemDisk) -> Option<String> {
+    disk.fuse(None);
+    let len = disk.len().ok()?;
+    let mut bytes = vec![in alloc; 0; len].ok()?;
+    match disk.read_at(0, &mut bytes) {
+        Ok(()) => hex::encode(alloc, &bytes).ok(),
+        Err(_) => None,
+    }
+}
+
+/// Returns what a disk answers to a word and values.
+fn call(alloc: Global, disk: &mut MemDisk, word: &str, values: &str) -> Option<String> {
+    match word {
+        "fuse" => fuse(alloc, disk, values),
+        "read" => read_so(alloc, disk, values),
+        "write" => write_so(alloc, disk, values),
+        "many" => many(alloc, disk, values),
+        _ => None,
+    }
+}
+
+/// Lets so many calls pass, or all.
+fn fuse(alloc: Global, disk: &mut MemDisk, calls: &str) -> Option<String> {
+    match calls {
+        "out" => disk.fuse(None),
+        calls => disk.fuse(Some(calls.parse().ok()?)),
+    }
+    Some(String::new(alloc))
+}
+
+/// The bytes that a read of a place and a count gives, or why it doesn't.
+fn read_so(alloc: Global, disk: &mut MemDisk, values: &str) -> Option<String> {
+    let (place, count) = values.split_once(' ')?;
+    read_text(alloc, disk, place.parse().ok()?, count.parse().ok()?)
 }
 
 /// The bytes that a read gives, or why it doesn't.
@@ -108,13 +144,12 @@ fn read(disk: &mut MemDisk, place: usize, buf: &mut [u8]) -> Result<Came, Device
     Ok(Came::Well)
 }
 
-/// Returns what is said of a call that gives nothing else.
-fn told_of(alloc: Global, came: Result<Came, DeviceFault>) -> Option<String> {
-    match came.unwrap_or(Came::Failed) {
-        Came::Well => Some(String::new(alloc)),
-        Came::Past => format!(in alloc; "past").ok(),
-        Came::Failed => format!(in alloc; "{DeviceFault}").ok(),
-    }
+/// Returns what a write of bytes at a place answers.
+fn write_so(alloc: Global, disk: &mut MemDisk, values: &str) -> Option<String> {
+    let (place, digits) = values.split_once(' ').unwrap_or((values, ""));
+    let place = place.parse().ok()?;
+    let bytes = bytes_of(alloc, digits)?;
+    told_of(alloc, write(disk, place, &bytes))
 }
 
 /// Writes at a place.
@@ -130,8 +165,17 @@ fn write(disk: &mut MemDisk, place: usize, bytes: &[u8]) -> Result<Came, DeviceF
     Ok(Came::Well)
 }
 
+/// Returns what is said of a call that gives nothing else.
+fn told_of(alloc: Global, came: Result<Came, DeviceFault>) -> Option<String> {
+    match came.unwrap_or(Came::Failed) {
+        Came::Well => Some(String::new(alloc)),
+        Came::Past => format!(in alloc; "past").ok(),
+        Came::Failed => format!(in alloc; "{DeviceFault}").ok(),
+    }
+}
+
 /// What a call comes to.
-#[derive(Drop)]
+#[derive(Clone, Copy)]
 enum Came {
     /// It passed.
     Well,
@@ -139,6 +183,14 @@ enum Came {
     Past,
     /// The disk failed.
     Failed,
+}
+
+/// Writes bytes at the end, as often as the values say.
+fn many(alloc: Global, disk: &mut MemDisk, values: &str) -> Option<String> {
+    let (count, digits) = values.split_once(' ')?;
+    let count = count.parse().ok()?;
+    let bytes = bytes_of(alloc, digits)?;
+    append_many(alloc, disk, count, &bytes)
 }
 
 /// Writes so often at the end.
@@ -154,13 +206,4 @@ fn append(disk: &mut MemDisk, bytes: &[u8]) -> Result<(), DeviceFault> {
     let end = disk.len()?;
     disk.write_at(end, bytes)?;
     disk.sync()
-}
-
-/// All bytes. The fuse is out then.
-fn all_text(alloc: Global, disk: &mut MemDisk) -> Option<String> {
-    disk.fuse(None);
-    let len = disk.len().ok()?;
-    let mut bytes = vec![in alloc; 0; len].ok()?;
-    disk.read_at(0, &mut bytes).ok()?;
-    hex::encode(alloc, &bytes).ok()
 }

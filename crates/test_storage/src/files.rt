@@ -9,15 +9,14 @@
 //! file goes wrong by that fault, or `none`, `old place FAULT` the same of a journal of version 1,
 //! and `shown PLACE` the bytes from a place on, as people see them.
 
+use crate::values::header_named;
 use commands::{bytes_at as shown, fault_place, old_fault_place};
 use disk::{Disk, MemDisk};
 use journal::{Journal, JournalFault, peek};
 use migration::MigrateFault;
 use std::alloc::{AllocError, Global};
 use terms::Header;
-use test_words::{
-    Runs, bytes_of, disk_of, header_of, header_text, journal_fault, records_text, words_of,
-};
+use test_words::{Runs, bytes_of, disk_of, header_text, journal_fault, records_text};
 
 /// A journal's file.
 #[derive(Drop)]
@@ -37,42 +36,63 @@ impl File {
 
     /// Plays a row.
     pub fn told(&mut self, action: &str) -> Option<String> {
-        let words = words_of(self.alloc, action)?;
-        match words.as_slice() {
-            ["file"] => {
-                self.bytes.clear();
-                Some(String::new(self.alloc))
-            }
-            ["file", digits] => {
-                self.bytes.clear();
-                self.add(digits)
-            }
-            ["more", digits] => self.add(digits),
-            ["header"] => match self.header() {
-                Ok(header) => header_text(self.alloc, &header),
-                Err(fault) => format!(in self.alloc; "{fault}").ok(),
-            },
-            ["open"] => answer_text(self.alloc, opening(self.alloc, None, &self.bytes)).ok(),
-            ["open", n, t, questions, me] => {
-                opened(self.alloc, &header_of(n, t, questions, me)?, &self.bytes)
-            }
-            ["set", at, digits] => answer_text(self.alloc, self.set(at, digits)?).ok(),
-            ["place", fault] => place_of(self.alloc, fault, &self.bytes),
-            ["old", "place", fault] => old_place_of(self.alloc, fault, &self.bytes),
-            ["shown", place] => shown(self.alloc, &self.bytes, place.parse().ok()?).ok(),
-            ["cuts"] => cuts(self.alloc, self.header().ok()?, &self.bytes).ok(),
-            ["bytes", at] => {
-                let header = self.header().ok()?;
-                bytes_at(
-                    self.alloc,
-                    header,
-                    self.bytes.as_mut_slice(),
-                    at.parse().ok()?,
-                )
-                .ok()
-            }
+        match action.split_once(' ') {
+            Some((word, rest)) => self.given(word, rest),
+            None => self.plain(action),
+        }
+    }
+
+    /// Plays a row of a word and values.
+    fn given(&mut self, word: &str, values: &str) -> Option<String> {
+        match word {
+            "file" => self.put(values),
+            "more" => self.add(values),
+            "open" => opened(self.alloc, values, &self.bytes),
+            "place" => place_of(self.alloc, values, &self.bytes),
+            "old" => old_place_of(self.alloc, values, &self.bytes),
+            "shown" => shown(self.alloc, &self.bytes, values.parse().ok()?).ok(),
+            "set" => self.set(values),
+            "bytes" => self.bytes_at(values.parse().ok()?),
             _ => None,
         }
+    }
+
+    /// Returns what is answered with a byte changed.
+    fn set(&mut self, values: &str) -> Option<String> {
+        let (at, digits) = values.split_once(' ')?;
+        let (at, byte) = (at.parse().ok()?, byte_of(self.alloc, digits)?);
+        let header = self.header().ok()?;
+        let answer = with_byte(
+            self.alloc,
+            Some(header),
+            self.bytes.as_mut_slice(),
+            at,
+            byte,
+        );
+        answer_text(self.alloc, answer).ok()
+    }
+
+    /// Returns what is answered with each value at a place.
+    fn bytes_at(&mut self, at: usize) -> Option<String> {
+        let header = self.header().ok()?;
+        bytes_at(self.alloc, header, self.bytes.as_mut_slice(), at).ok()
+    }
+
+    /// Plays a row of one word.
+    fn plain(&mut self, word: &str) -> Option<String> {
+        match word {
+            "file" => self.put(""),
+            "header" => self.header_text(),
+            "open" => answer_text(self.alloc, opening(self.alloc, None, &self.bytes)).ok(),
+            "cuts" => cuts(self.alloc, self.header().ok()?, &self.bytes).ok(),
+            _ => None,
+        }
+    }
+
+    /// Puts in these bytes.
+    fn put(&mut self, digits: &str) -> Option<String> {
+        self.bytes.clear();
+        self.add(digits)
     }
 
     /// Lengthens it.
@@ -82,19 +102,11 @@ impl File {
         Some(String::new(self.alloc))
     }
 
-    /// Returns what is answered with a byte changed.
-    fn set(&mut self, at: &str, digits: &str) -> Option<Answer> {
-        let header = self.header().ok()?;
-        let bytes = bytes_of(self.alloc, digits)?;
-        match bytes.as_slice() {
-            [byte] => Some(with_byte(
-                self.alloc,
-                Some(header),
-                self.bytes.as_mut_slice(),
-                at.parse().ok()?,
-                *byte,
-            )),
-            _ => None,
+    /// The member that its header names, or the fault.
+    fn header_text(&self) -> Option<String> {
+        match self.header() {
+            Ok(header) => header_text(self.alloc, &header),
+            Err(fault) => format!(in self.alloc; "{fault}").ok(),
         }
     }
 
@@ -104,11 +116,20 @@ impl File {
     }
 }
 
-/// The records that an opening gives, or its fault.
-fn opened(alloc: Global, header: &Header, bytes: &[u8]) -> Option<String> {
-    match Journal::open(alloc, disk_of(alloc, bytes).ok()?, header) {
+/// The records that an opening gives to a member of cluster 7, or its fault.
+fn opened(alloc: Global, values: &str, bytes: &[u8]) -> Option<String> {
+    let header = header_named(alloc, values)?;
+    match Journal::open(alloc, disk_of(alloc, bytes).ok()?, &header) {
         Ok((_, records)) => records_text(alloc, "", records.as_slice()).ok(),
         Err(fault) => format!(in alloc; "{fault}").ok(),
+    }
+}
+
+/// The byte of two digits.
+fn byte_of(alloc: Global, digits: &str) -> Option<u8> {
+    match bytes_of(alloc, digits)?.as_slice() {
+        [byte] => Some(*byte),
+        _ => None,
     }
 }
 
@@ -119,7 +140,8 @@ fn place_of(alloc: Global, fault: &str, bytes: &[u8]) -> Option<String> {
 }
 
 /// Tells the byte at which a file of version 1 goes wrong by a fault of its migration.
-fn old_place_of(alloc: Global, fault: &str, bytes: &[u8]) -> Option<String> {
+fn old_place_of(alloc: Global, values: &str, bytes: &[u8]) -> Option<String> {
+    let fault = values.strip_prefix("place ")?;
     let place = old_fault_place(alloc, migrate_fault(fault)?, bytes).ok()?;
     place_text(alloc, place)
 }
@@ -153,7 +175,7 @@ fn cuts(alloc: Global, header: Header, bytes: &[u8]) -> Result<String, AllocErro
     let mut runs = Runs::new(alloc);
     for len in 0..bytes.len() {
         let (front, _) = bytes.split_at(len);
-        runs.take(answer_text(alloc, opening(alloc, Some(header), front))?)?;
+        take(alloc, &mut runs, opening(alloc, Some(header), front))?;
     }
     runs.finish()
 }
@@ -168,7 +190,7 @@ fn bytes_at(
     let mut runs = Runs::new(alloc);
     for byte in 0..256u16 {
         let answer = with_byte(alloc, Some(header), bytes, at, byte as u8);
-        runs.take(answer_text(alloc, answer)?)?;
+        take(alloc, &mut runs, answer)?;
     }
     runs.finish()
 }
@@ -199,6 +221,11 @@ fn opening(alloc: Global, header: Option<Header>, bytes: &[u8]) -> Answer {
     };
     let (_, records) = Journal::open(alloc, disk, &header)?;
     Ok(records.len())
+}
+
+/// Adds an answer to the runs.
+fn take(alloc: Global, runs: &mut Runs, answer: Answer) -> Result<(), AllocError> {
+    runs.take(answer_text(alloc, answer)?)
 }
 
 /// Returns what is said of an answer.

@@ -6,6 +6,7 @@ mod disks;
 mod files;
 mod lives;
 mod migrations;
+mod values;
 
 pub use disks::Disks;
 pub use files::File;

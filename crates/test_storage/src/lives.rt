@@ -10,6 +10,7 @@
 //! and `disk DIGITS` one that has these bytes; `create` makes a journal there, and `create with
 //! CALLS` where so many calls of the device pass.
 
+use crate::values::pick_named;
 use disk::{Disk, MemDisk};
 use journal::create;
 use member::{Member, MemberFault};
@@ -19,8 +20,7 @@ use std::alloc::Global;
 use std::marker::Model;
 use terms::{Header, Record, Size, Statement};
 use test_words::{
-    answer_text, bytes_of, disk_of, header_of, pick_of, records_text, statement_of, toss_of,
-    words_of,
+    answer_text, bytes_of, disk_of, header_of, records_text, statement_of, toss_of, words_of,
 };
 
 /// A member, up or down.
@@ -45,80 +45,99 @@ impl Life {
 
     /// Plays a row.
     pub fn told(&mut self, action: &str) -> Option<String> {
-        let alloc = self.alloc;
-        let any = Size::new(64, 0, 4096).ok()?;
-        if let Some(event) = action.strip_prefix("hear ") {
-            let event = event_of(alloc, any, event)?;
-            return match &mut self.up {
-                Some(up) => up.hear(alloc, event),
-                None => None,
-            };
+        match action.split_once(' ') {
+            Some((word, rest)) => self.given(word, rest),
+            None => self.plain(action),
         }
-        if let Some(group) = action.strip_prefix("all") {
-            let events = events_of(alloc, any, group.trim())?;
-            return match &mut self.up {
-                Some(up) => up.hear_all(alloc, &events),
-                None => None,
-            };
-        }
-        let words = words_of(alloc, action)?;
-        self.word(words.as_slice())
     }
 
-    /// Plays a row of these words, of which any member and any disk knows.
-    fn word(&mut self, words: &[&str]) -> Option<String> {
-        match words {
-            ["size", n, t, questions, "me", me] => self.begin(header_of(n, t, questions, me)?),
-            ["open"] => {
-                let (mut disk, header) = (self.take_disk()?, self.header?);
-                disk.fuse(None);
-                self.open(disk, &header)
-            }
-            ["open", "with", calls] => {
-                let (mut disk, header) = (self.take_disk()?, self.header?);
-                disk.fuse(Some(calls.parse().ok()?));
-                self.open(disk, &header)
-            }
-            ["open", "as", cluster] => {
-                let header = self.header?;
-                let disk = self.take_disk()?;
-                self.open(
-                    disk,
-                    &Header::new(cluster.parse().ok()?, header.size(), header.me())?,
-                )
-            }
-            ["crash", pick @ ..] => {
-                let (disk, header) = (self.take_disk()?.crash(pick_of(pick)?).ok()?, self.header?);
-                self.open(disk, &header)
-            }
-            ["empty"] => {
-                self.up = None;
-                self.disk = Some(MemDisk::new(self.alloc));
-                Some(String::new(self.alloc))
-            }
-            ["disk", digits] => {
-                self.up = None;
-                self.disk = Some(disk_of(self.alloc, &bytes_of(self.alloc, digits)?).ok()?);
-                Some(String::new(self.alloc))
-            }
-            ["create"] => self.make(None),
-            ["create", "with", calls] => self.make(Some(calls.parse().ok()?)),
-            ["len"] => self.len(),
-            _ => match &mut self.up {
-                Some(up) => up.told(self.alloc, words),
-                None => None,
-            },
+    /// Plays a row of a word and values, of which any member and any disk knows.
+    fn given(&mut self, word: &str, values: &str) -> Option<String> {
+        match word {
+            "hear" => self.hear(values),
+            "all" => self.hear_all(values),
+            "size" => self.begin(values),
+            "open" => self.open_as(values),
+            "crash" => self.crash(values),
+            "disk" => self.restore(values),
+            "create" => self.make(Some(calls_of(values)?)),
+            word => self.up.as_mut()?.given(self.alloc, word, values),
         }
+    }
+
+    /// Hears a statement.
+    fn hear(&mut self, event: &str) -> Option<String> {
+        let event = event_of(self.alloc, event)?;
+        self.up.as_mut()?.hear(self.alloc, &event)
     }
 
     /// A member of that header on a new disk. It is down.
-    fn begin(&mut self, header: Header) -> Option<String> {
-        let mut disk = MemDisk::new(self.alloc);
-        create(&mut disk, &header).ok()?;
-        self.header = Some(header);
-        self.disk = Some(disk);
+    fn begin(&mut self, values: &str) -> Option<String> {
+        self.header = Some(header_with(self.alloc, values)?);
+        self.disk = Some(MemDisk::new(self.alloc));
         self.up = None;
-        Some(String::new(self.alloc))
+        self.make(None)
+    }
+
+    /// Opens it on a disk of which so many calls pass, or as a member of another cluster.
+    fn open_as(&mut self, values: &str) -> Option<String> {
+        match values.strip_prefix("as ") {
+            Some(cluster) => self.open_in(cluster.parse().ok()?),
+            None => self.reopen(Some(calls_of(values)?)),
+        }
+    }
+
+    /// Opens it as a member of that cluster.
+    fn open_in(&mut self, cluster: u64) -> Option<String> {
+        let header = self.header?;
+        let header = Header::new(cluster, header.size(), header.me())?;
+        let disk = self.take_disk()?;
+        self.open(disk, &header)
+    }
+
+    /// Opens what a crash leaves.
+    fn crash(&mut self, pick: &str) -> Option<String> {
+        let (header, pick) = (self.header?, pick_named(self.alloc, pick)?);
+        let left = self.take_disk()?.crash(pick).ok()?;
+        self.open(left, &header)
+    }
+
+    /// Gives it a disk of these bytes. It is down then.
+    fn restore(&mut self, digits: &str) -> Option<String> {
+        let bytes = bytes_of(self.alloc, digits)?;
+        match disk_of(self.alloc, &bytes) {
+            Ok(disk) => self.put(disk),
+            Err(_) => None,
+        }
+    }
+
+    /// Plays a row of one word, of which any member and any disk knows.
+    fn plain(&mut self, word: &str) -> Option<String> {
+        match word {
+            "all" => self.hear_all(""),
+            "open" => self.reopen(None),
+            "empty" => self.put(MemDisk::new(self.alloc)),
+            "create" => self.make(None),
+            "len" => self.len(),
+            word => self.up.as_mut()?.asked(self.alloc, word),
+        }
+    }
+
+    /// Hears a group.
+    fn hear_all(&mut self, group: &str) -> Option<String> {
+        let events = events_of(self.alloc, group)?;
+        match &mut self.up {
+            Some(up) => up.hear_all(self.alloc, &events),
+            None => None,
+        }
+    }
+
+    /// Opens it where so many calls of its disk pass.
+    fn reopen(&mut self, calls: Option<u64>) -> Option<String> {
+        let header = self.header?;
+        let mut disk = self.take_disk()?;
+        disk.fuse(calls);
+        self.open(disk, &header)
     }
 
     /// Opens it on that disk, and tells its records or the fault. After a fault it is down.
@@ -136,10 +155,18 @@ impl Life {
         }
     }
 
+    /// Gives it another disk. It is down then.
+    fn put(&mut self, disk: MemDisk) -> Option<String> {
+        self.up = None;
+        self.disk = Some(disk);
+        Some(String::new(self.alloc))
+    }
+
     /// Makes its journal on the disk that is there, where so many calls of it pass, and tells the
     /// fault. It is down then.
     fn make(&mut self, calls: Option<u64>) -> Option<String> {
-        let (mut disk, header) = (self.take_disk()?, self.header?);
+        let header = self.header?;
+        let mut disk = self.take_disk()?;
         disk.fuse(calls);
         let made = create(&mut disk, &header);
         disk.fuse(None);
@@ -154,9 +181,9 @@ impl Life {
     fn len(&mut self) -> Option<String> {
         let mut disk = self.take_disk()?;
         disk.fuse(None);
-        let len = disk.len().ok()?;
+        let len = disk.len();
         self.disk = Some(disk);
-        format!(in self.alloc; "{len}").ok()
+        format!(in self.alloc; "{}", len.ok()?).ok()
     }
 
     /// Closes it where it is up, and takes its disk.
@@ -165,6 +192,20 @@ impl Life {
             Some(up) => Some(up.member.into_disk()),
             None => self.disk.take(),
         }
+    }
+}
+
+/// Reads how many calls of a disk pass.
+fn calls_of(values: &str) -> Option<u64> {
+    values.strip_prefix("with ")?.parse().ok()
+}
+
+/// The header of a text of a size, `me`, and a member.
+fn header_with(alloc: Global, values: &str) -> Option<Header> {
+    let words = words_of(alloc, values)?;
+    match words.as_slice() {
+        [n, t, questions, "me", me] => header_of(n, t, questions, me),
+        _ => None,
     }
 }
 
@@ -187,46 +228,29 @@ impl Model for Up {
 
 impl Up {
     /// Hears a statement.
-    fn hear(&mut self, alloc: Global, event: (u8, Statement, Toss)) -> Option<String> {
+    fn hear(&mut self, alloc: Global, event: &Event) -> Option<String> {
         let (from, statement, toss) = event;
-        told_of(alloc, self.member.hear(from, &statement, toss))
+        told_of(alloc, self.member.hear(*from, statement, *toss))
     }
 
     /// Hears a group.
-    fn hear_all(&mut self, alloc: Global, events: &[(u8, Statement, Toss)]) -> Option<String> {
+    fn hear_all(&mut self, alloc: Global, events: &[Event]) -> Option<String> {
         if events.len() > 256 {
             return None;
         }
-        all_told(alloc, self.member.hear_all(events))
+        match self.member.hear_all(events) {
+            Ok(answers) => answers_text(alloc, &answers),
+            Err(fault) => format!(in alloc; "{fault}").ok(),
+        }
     }
 
-    /// Plays a row of these words.
-    fn told(&mut self, alloc: Global, words: &[&str]) -> Option<String> {
-        match words {
-            ["propose", question, bit, toss] => {
-                let toss = toss_of(alloc, toss)?;
-                told_of(
-                    alloc,
-                    self.member
-                        .propose(question.parse().ok()?, *bit == "1", toss),
-                )
-            }
-            ["outbox"] => self.outbox(alloc),
-            ["verdict", question] => match self.member.verdict(question.parse().ok()?) {
-                Some(bit) => format!(in alloc; "{}", u8::from(bit)).ok(),
-                None => format!(in alloc; "none").ok(),
-            },
-            ["stopped"] => format!(in alloc; "{}", self.member.is_stopped()).ok(),
-            ["stop"] => {
+    /// Plays a row of one word.
+    fn asked(&mut self, alloc: Global, word: &str) -> Option<String> {
+        match word {
+            "outbox" => self.outbox(alloc),
+            "stopped" => format!(in alloc; "{}", self.member.is_stopped()).ok(),
+            "stop" => {
                 self.member.stop();
-                Some(String::new(alloc))
-            }
-            ["fuse", "out"] => {
-                self.member.fuse(None);
-                Some(String::new(alloc))
-            }
-            ["fuse", calls] => {
-                self.member.fuse(Some(calls.parse().ok()?));
                 Some(String::new(alloc))
             }
             _ => None,
@@ -237,14 +261,50 @@ impl Up {
     fn outbox(&self, alloc: Global) -> Option<String> {
         let mut text = String::new(alloc);
         for sealed in self.member.outbox() {
-            let record = records_text(alloc, "", &[Record::Said(sealed.statement())]).ok()?;
-            let space = if text.is_empty() { "" } else { " " };
-            let item = format!(in alloc; "{space}{} {record}", sealed.number()).ok()?;
-            text.push_str(item.as_str()).ok()?;
+            let item = sealed_text(alloc, sealed.number(), sealed.statement())?;
+            add(&mut text, " ", item.as_str())?;
         }
         Some(text)
     }
+
+    /// Plays a row of a word and values.
+    fn given(&mut self, alloc: Global, word: &str, values: &str) -> Option<String> {
+        match word {
+            "propose" => self.propose(alloc, values),
+            "verdict" => self.verdict(alloc, values.parse().ok()?),
+            "fuse" => self.fuse(alloc, values),
+            _ => None,
+        }
+    }
+
+    /// Proposes a bit to it.
+    fn propose(&mut self, alloc: Global, values: &str) -> Option<String> {
+        let (question, rest) = values.split_once(' ')?;
+        let (bit, toss) = rest.split_once(' ')?;
+        let (question, toss) = (question.parse().ok()?, toss_of(alloc, toss)?);
+        told_of(alloc, self.member.propose(question, bit == "1", toss))
+    }
+
+    /// Returns what it decided.
+    fn verdict(&self, alloc: Global, question: u16) -> Option<String> {
+        match self.member.verdict(question) {
+            Some(bit) => format!(in alloc; "{}", u8::from(bit)).ok(),
+            None => format!(in alloc; "none").ok(),
+        }
+    }
+
+    /// Lets so many calls of its disk pass, or all.
+    fn fuse(&mut self, alloc: Global, calls: &str) -> Option<String> {
+        match calls {
+            "out" => self.member.fuse(None),
+            calls => self.member.fuse(Some(calls.parse().ok()?)),
+        }
+        Some(String::new(alloc))
+    }
 }
+
+/// A member's event: who says it, what is said, and the toss.
+type Event = (u8, Statement, Toss);
 
 /// Returns what is said of an answer, or of the fault.
 fn told_of(alloc: Global, answer: Result<Answer, MemberFault>) -> Option<String> {
@@ -254,43 +314,47 @@ fn told_of(alloc: Global, answer: Result<Answer, MemberFault>) -> Option<String>
     }
 }
 
-/// Returns what is said of the answers to a group, or of the fault.
-fn all_told(alloc: Global, answers: Result<Vec<Answer>, MemberFault>) -> Option<String> {
-    let answers = match answers {
-        Ok(answers) => answers,
-        Err(fault) => return format!(in alloc; "{fault}").ok(),
-    };
+/// Returns what is said of the answers to a group.
+fn answers_text(alloc: Global, answers: &[Answer]) -> Option<String> {
     let mut text = String::new(alloc);
-    for answer in &answers {
-        if !text.is_empty() {
-            text.push_str(", ").ok()?;
-        }
-        text.push_str(answer_text(alloc, answer).ok()?.as_str())
-            .ok()?;
+    for answer in answers {
+        let item = answer_text(alloc, answer).ok()?;
+        add(&mut text, ", ", item.as_str())?;
     }
     Some(text)
 }
 
+/// Adds an item to a list, with a gap before it unless it is the first.
+fn add(text: &mut String, gap: &str, item: &str) -> Option<()> {
+    if !text.is_empty() {
+        text.push_str(gap).ok()?;
+    }
+    text.push_str(item).ok()
+}
+
+/// The number and the record of a statement.
+fn sealed_text(alloc: Global, number: u64, statement: Statement) -> Option<String> {
+    let record = records_text(alloc, "", &[Record::Said(statement)]).ok()?;
+    format!(in alloc; "{number} {record}").ok()
+}
+
 /// The events of a group, with a comma between two.
-fn events_of(alloc: Global, size: Size, text: &str) -> Option<Vec<(u8, Statement, Toss)>> {
+fn events_of(alloc: Global, text: &str) -> Option<Vec<Event>> {
     let mut events = Vec::new(alloc);
     if text.is_empty() {
         return Some(events);
     }
     for event in text.split(", ") {
-        events.push(event_of(alloc, size, event)?).ok()?;
+        events.push(event_of(alloc, event)?).ok()?;
     }
     Some(events)
 }
 
-/// A member's event: who says it, what is said, and the toss.
-fn event_of(alloc: Global, size: Size, text: &str) -> Option<(u8, Statement, Toss)> {
-    let words = words_of(alloc, text)?;
-    match words.as_slice() {
-        [from, frame, toss] => {
-            let statement = statement_of(alloc, size, frame)?;
-            Some((from.parse().ok()?, statement, toss_of(alloc, toss)?))
-        }
-        _ => None,
-    }
+/// Reads an event.
+fn event_of(alloc: Global, text: &str) -> Option<Event> {
+    let (from, rest) = text.split_once(' ')?;
+    let (frame, toss) = rest.split_once(' ')?;
+    let any = Size::new(64, 0, 4096).ok()?;
+    let statement = statement_of(alloc, any, frame)?;
+    Some((from.parse().ok()?, statement, toss_of(alloc, toss)?))
 }

@@ -17,28 +17,13 @@
 //! `new` is the new file's bytes, `part PLACE LEN` some of them, `len` its length, `open` its
 //! records, and `again` what beginning another one there answers.
 
+use crate::values::{header_named, pick_named};
 use disk::{Disk, MemDisk, Pick};
-use journal::Journal;
+use journal::{Journal, JournalFault};
 use migration::{MigrateFault, begin, peek_old, stage};
 use std::alloc::{AllocError, Global};
 use terms::Header;
-use test_words::{
-    Runs, bytes_of, disk_of, header_of, header_text, pick_of, records_text, words_of,
-};
-
-/// The number of records that were brought over, or the fault.
-type Answer = Result<u64, MigrateFault>;
-
-/// The disk that a fuse is put in, and when.
-#[derive(Clone, Copy)]
-enum Fused {
-    /// The new one, when it is begun.
-    Begin,
-    /// The new one, when it is finished.
-    New,
-    /// The old one, then.
-    Old,
-}
+use test_words::{Runs, bytes_of, disk_of, header_text, records_text};
 
 /// An old file, and the new one.
 #[derive(Drop)]
@@ -60,15 +45,39 @@ impl Migration {
 
     /// Plays a row.
     pub fn told(&mut self, action: &str) -> Option<String> {
-        let words = words_of(self.alloc, action)?;
-        match words.as_slice() {
-            ["stop", fused, calls, pick @ ..] => {
-                let (_, said) = self.stop(fused_of(fused)?, calls.parse().ok()?, pick_of(pick)?)?;
-                Some(said)
-            }
-            ["stops", fused, pick @ ..] => self.stops(fused_of(fused)?, pick_of(pick)?),
-            words => self.of_old(words),
+        match action.split_once(' ') {
+            Some((word, rest)) => self.given(word, rest),
+            None => self.plain(action),
         }
+    }
+
+    /// Plays a row of a word and values.
+    fn given(&mut self, word: &str, values: &str) -> Option<String> {
+        match word {
+            "stop" => self.stop_so(values),
+            "stops" => self.stops_so(values),
+            "old" => self.put(values),
+            "more" => self.lengthen(values),
+            "migrate" => self.migrate_so(values),
+            "bytes" => self.bytes_at(values.parse().ok()?),
+            "part" => self.part(values),
+            _ => None,
+        }
+    }
+
+    /// Stops it at a call of a disk, with a pick behind it.
+    fn stop_so(&mut self, values: &str) -> Option<String> {
+        let (fused, rest) = values.split_once(' ')?;
+        let (calls, pick) = rest.split_once(' ')?;
+        let (fused, pick) = (fused_of(fused)?, pick_named(self.alloc, pick)?);
+        let (_, said) = self.stop(fused, calls.parse().ok()?, pick)?;
+        Some(said)
+    }
+
+    /// Stops it at every call of a disk, with a pick behind it.
+    fn stops_so(&mut self, values: &str) -> Option<String> {
+        let (fused, pick) = values.split_once(' ')?;
+        self.stops(fused_of(fused)?, pick_named(self.alloc, pick)?)
     }
 
     /// Stops it at every call in turn.
@@ -84,53 +93,73 @@ impl Migration {
         None
     }
 
-    /// Stops it, and crashes: whether it failed, how it ended, and what opening gives then.
+    /// Stops it, and crashes: whether it failed, and what is said of it.
     fn stop(&mut self, fused: Fused, calls: u64, pick: Pick) -> Option<(bool, String)> {
         let header = self.header()?.ok()?;
         let (answer, disk) = stopped(self.alloc, &self.old, &header, fused, calls)?;
-        let (text, disk) = opened(self.alloc, disk.crash(pick).ok()?, &header)?;
+        let (opened, disk) = opened(self.alloc, disk.crash(pick).ok()?, &header);
         self.new = Some(disk);
-        let ended = answer_text(self.alloc, answer).ok()?;
-        let said = format!(in self.alloc; "{ended} {text}").ok()?;
-        Some((answer.is_err(), said))
+        Some((answer.is_err(), stop_text(self.alloc, answer, opened)?))
     }
 
-    /// Plays a row of these words, of which the old file knows.
-    fn of_old(&mut self, words: &[&str]) -> Option<String> {
-        match words {
-            ["old"] => {
-                self.old.clear();
-                Some(String::new(self.alloc))
-            }
-            ["old", digits] => {
-                self.old.clear();
-                self.add(digits, 1)
-            }
-            ["more", digits] => self.add(digits, 1),
-            ["more", digits, times] => self.add(digits, times.parse().ok()?),
-            ["peek"] => match self.header()? {
-                Ok(header) => header_text(self.alloc, &header),
-                Err(fault) => format!(in self.alloc; "{fault}").ok(),
-            },
-            ["migrate"] => match self.header()? {
-                Ok(header) => self.migrate(MemDisk::new(self.alloc), &header),
-                Err(fault) => format!(in self.alloc; "{fault}").ok(),
-            },
-            ["migrate", "over", digits] => {
-                let header = self.header()?.ok()?;
-                let new = disk_of(self.alloc, &bytes_of(self.alloc, digits)?).ok()?;
-                self.migrate(new, &header)
-            }
-            ["migrate", n, t, questions, me] => {
-                self.migrate(MemDisk::new(self.alloc), &header_of(n, t, questions, me)?)
-            }
-            ["cuts"] => self.cuts(&self.header()?.ok()?),
-            ["bytes", at] => {
-                let header = self.header()?.ok()?;
-                self.bytes(at.parse().ok()?, &header)
-            }
-            _ => self.of_new(words),
+    /// Lengthens the old file, once or so many times.
+    fn lengthen(&mut self, values: &str) -> Option<String> {
+        let (digits, times) = values.split_once(' ').unwrap_or((values, "1"));
+        self.add(digits, times.parse().ok()?)
+    }
+
+    /// Brings it over into a file of these bytes, or for a member of cluster 7.
+    fn migrate_so(&mut self, values: &str) -> Option<String> {
+        match values.strip_prefix("over ") {
+            Some(digits) => self.migrate_over(digits),
+            None => self.migrate_for(values),
         }
+    }
+
+    /// Brings it over into a file of these bytes, for the member that it names.
+    fn migrate_over(&mut self, digits: &str) -> Option<String> {
+        let header = self.header()?.ok()?;
+        let bytes = bytes_of(self.alloc, digits)?;
+        match disk_of(self.alloc, &bytes) {
+            Ok(new) => self.migrate(new, &header),
+            Err(_) => None,
+        }
+    }
+
+    /// Brings it over into an empty file, for a member of cluster 7.
+    fn migrate_for(&mut self, values: &str) -> Option<String> {
+        let header = header_named(self.alloc, values)?;
+        self.migrate(MemDisk::new(self.alloc), &header)
+    }
+
+    /// The answers to the old file with each value at a place.
+    fn bytes_at(&mut self, at: usize) -> Option<String> {
+        let header = self.header()?.ok()?;
+        bytes_at(self.alloc, self.old.as_mut_slice(), at, &header)
+    }
+
+    /// Some of the bytes of the new file.
+    fn part(&mut self, values: &str) -> Option<String> {
+        let (at, len) = values.split_once(' ')?;
+        let (at, len) = (at.parse().ok()?, len.parse().ok()?);
+        part(self.alloc, &self.content()?, at, len)
+    }
+
+    /// Plays a row of one word.
+    fn plain(&mut self, word: &str) -> Option<String> {
+        match word {
+            "old" => self.put(""),
+            "peek" => self.peek(),
+            "migrate" => self.migrate_own(),
+            "cuts" => cuts(self.alloc, &self.old, &self.header()?.ok()?),
+            word => self.of_new(word),
+        }
+    }
+
+    /// Puts these bytes in as the old file.
+    fn put(&mut self, digits: &str) -> Option<String> {
+        self.old.clear();
+        self.add(digits, 1)
     }
 
     /// Lengthens the old file, so many times.
@@ -142,6 +171,22 @@ impl Migration {
         Some(String::new(self.alloc))
     }
 
+    /// The member that the old file names, or the fault.
+    fn peek(&self) -> Option<String> {
+        match self.header()? {
+            Ok(header) => header_text(self.alloc, &header),
+            Err(fault) => format!(in self.alloc; "{fault}").ok(),
+        }
+    }
+
+    /// Brings it over into an empty file, for the member that it names.
+    fn migrate_own(&mut self) -> Option<String> {
+        match self.header()? {
+            Ok(header) => self.migrate(MemDisk::new(self.alloc), &header),
+            Err(fault) => format!(in self.alloc; "{fault}").ok(),
+        }
+    }
+
     /// Brings it over to a disk, for a member.
     fn migrate(&mut self, new: MemDisk, header: &Header) -> Option<String> {
         let (answer, disk) = brought_over(self.alloc, &self.old, new, header);
@@ -149,60 +194,32 @@ impl Migration {
         answer_text(self.alloc, answer).ok()
     }
 
-    /// The answers to every front of the old file.
-    fn cuts(&self, header: &Header) -> Option<String> {
-        let mut runs = Runs::new(self.alloc);
-        for len in 0..self.old.len() {
-            let (front, _) = self.old.as_slice().split_at(len);
-            let (answer, _) = brought_over(self.alloc, front, MemDisk::new(self.alloc), header);
-            runs.take(answer_text(self.alloc, answer).ok()?).ok()?;
+    /// Plays a row of one word, of which the new file knows.
+    fn of_new(&mut self, word: &str) -> Option<String> {
+        match word {
+            "again" => self.again(),
+            "open" => self.open(),
+            "new" => hex::encode(self.alloc, self.content()?.as_slice()).ok(),
+            "len" => format!(in self.alloc; "{}", self.content()?.len()).ok(),
+            _ => None,
         }
-        runs.finish().ok()
     }
 
-    /// The answers to the old file with each value at a place, which has its own again then.
-    fn bytes(&mut self, at: usize, header: &Header) -> Option<String> {
-        let own = self.old.get(at).copied()?;
-        let mut runs = Runs::new(self.alloc);
-        for byte in 0..256u16 {
-            *self.old.get_mut(at)? = byte as u8;
-            let (answer, _) = brought_over(self.alloc, &self.old, MemDisk::new(self.alloc), header);
-            runs.take(answer_text(self.alloc, answer).ok()?).ok()?;
+    /// Begins another file in place of the new one.
+    fn again(&mut self) -> Option<String> {
+        let header = self.header()?.ok()?;
+        match begin(self.alloc, self.new.take()?, &header) {
+            Ok(_) => Some(String::new(self.alloc)),
+            Err(fault) => format!(in self.alloc; "{fault}").ok(),
         }
-        *self.old.get_mut(at)? = own;
-        runs.finish().ok()
     }
 
-    /// Plays a row of these words, of which the new file knows.
-    fn of_new(&mut self, words: &[&str]) -> Option<String> {
-        let mut disk = self.new.take()?;
-        match words {
-            ["again"] => {
-                let header = self.header()?.ok()?;
-                match begin(self.alloc, disk, &header) {
-                    Ok(_) => Some(String::new(self.alloc)),
-                    Err(fault) => format!(in self.alloc; "{fault}").ok(),
-                }
-            }
-            ["open"] => {
-                let header = self.header()?.ok()?;
-                match Journal::open(self.alloc, disk, &header) {
-                    Ok((_, records)) => records_text(self.alloc, "", records.as_slice()).ok(),
-                    Err(fault) => format!(in self.alloc; "{fault}").ok(),
-                }
-            }
-            _ => {
-                let bytes = content(self.alloc, &mut disk)?;
-                self.new = Some(disk);
-                match words {
-                    ["new"] => hex::encode(self.alloc, bytes.as_slice()).ok(),
-                    ["len"] => format!(in self.alloc; "{}", bytes.len()).ok(),
-                    ["part", at, len] => {
-                        part(self.alloc, &bytes, at.parse().ok()?, len.parse().ok()?)
-                    }
-                    _ => None,
-                }
-            }
+    /// The records of the new file, or the fault.
+    fn open(&mut self) -> Option<String> {
+        let header = self.header()?.ok()?;
+        match Journal::open(self.alloc, self.new.take()?, &header) {
+            Ok((_, records)) => records_text(self.alloc, "", records.as_slice()).ok(),
+            Err(fault) => format!(in self.alloc; "{fault}").ok(),
         }
     }
 
@@ -211,6 +228,126 @@ impl Migration {
         let mut disk = disk_of(self.alloc, &self.old).ok()?;
         Some(peek_old(&mut disk))
     }
+
+    /// The bytes of the new file.
+    fn content(&mut self) -> Option<Vec<u8>> {
+        content(self.alloc, self.new.as_mut()?)
+    }
+}
+
+/// The digits of so many of the bytes from a place on.
+fn part(alloc: Global, bytes: &[u8], at: usize, len: usize) -> Option<String> {
+    let (_, behind) = bytes.split_at_checked(at)?;
+    let (part, _) = behind.split_at_checked(len)?;
+    hex::encode(alloc, part).ok()
+}
+
+/// The disk of that name.
+fn fused_of(name: &str) -> Option<Fused> {
+    match name {
+        "begin" => Some(Fused::Begin),
+        "new" => Some(Fused::New),
+        "old" => Some(Fused::Old),
+        _ => None,
+    }
+}
+
+/// Brings an old file over where a fuse lets so many calls of a disk pass. Returns how it ended,
+/// and the new disk that is left.
+fn stopped(
+    alloc: Global,
+    old: &[u8],
+    header: &Header,
+    fused: Fused,
+    calls: u64,
+) -> Option<(Answer, MemDisk)> {
+    let (mut from, mut to) = (disk_of(alloc, old).ok()?, MemDisk::new(alloc));
+    match fused {
+        Fused::Begin => to.fuse(Some(calls)),
+        // three calls begin it
+        Fused::New => to.fuse(Some(calls.saturating_add(3))),
+        Fused::Old => from.fuse(Some(calls)),
+    }
+    Some(carried(alloc, &mut from, to, header))
+}
+
+/// The disk that a fuse is put in, and when.
+#[derive(Clone, Copy)]
+enum Fused {
+    /// The new one, when it is begun.
+    Begin,
+    /// The new one, when it is finished.
+    New,
+    /// The old one, then.
+    Old,
+}
+
+/// Brings an old disk over to a new one, which comes back also where that fails.
+fn carried(alloc: Global, from: &mut MemDisk, to: MemDisk, header: &Header) -> (Answer, MemDisk) {
+    let staging = match stage(alloc, to, header) {
+        Ok(staging) => staging,
+        Err((fault, disk)) => return (Err(fault), disk),
+    };
+    match staging.carry(alloc, from) {
+        Ok((journal, count)) => (Ok(count), journal.into_disk()),
+        Err((fault, disk)) => (Err(fault), disk),
+    }
+}
+
+/// Returns how it ended, and what opening the new file gives then.
+fn stop_text(alloc: Global, answer: Answer, opened: Opening) -> Option<String> {
+    let ended = answer_text(alloc, answer).ok()?;
+    match opened {
+        Ok(count) => format!(in alloc; "{ended} {count}").ok(),
+        Err(fault) => format!(in alloc; "{ended} {fault}").ok(),
+    }
+}
+
+/// Opens a disk, and gives it back.
+fn opened(alloc: Global, disk: MemDisk, header: &Header) -> (Opening, MemDisk) {
+    match Journal::adopt(alloc, disk, header) {
+        Ok((journal, records)) => (Ok(records.len()), journal.into_disk()),
+        Err((fault, disk)) => (Err(fault), disk),
+    }
+}
+
+/// The number of records that an opening gives, or its fault.
+type Opening = Result<usize, JournalFault>;
+
+/// The answers to an old file with each value at a place.
+fn bytes_at(alloc: Global, old: &mut [u8], at: usize, header: &Header) -> Option<String> {
+    let mut runs = Runs::new(alloc);
+    for byte in 0..256u16 {
+        let answer = with_byte(alloc, old, at, byte as u8, header);
+        take(alloc, &mut runs, answer)?;
+    }
+    runs.finish().ok()
+}
+
+/// The answer to an old file with that byte at a place, which has its own again then.
+fn with_byte(alloc: Global, old: &mut [u8], at: usize, byte: u8, header: &Header) -> Answer {
+    let Some(own) = old.get(at).copied() else {
+        return attempt(alloc, old, header);
+    };
+    old[at] = byte;
+    let answer = attempt(alloc, old, header);
+    old[at] = own;
+    answer
+}
+
+/// The answers to every front of an old file.
+fn cuts(alloc: Global, old: &[u8], header: &Header) -> Option<String> {
+    let mut runs = Runs::new(alloc);
+    for len in 0..old.len() {
+        let (front, _) = old.split_at(len);
+        take(alloc, &mut runs, attempt(alloc, front, header))?;
+    }
+    runs.finish().ok()
+}
+
+/// Adds an answer to the runs.
+fn take(alloc: Global, runs: &mut Runs, answer: Answer) -> Option<()> {
+    runs.take(answer_text(alloc, answer).ok()?).ok()
 }
 
 /// Returns what is said of an answer.
@@ -219,6 +356,12 @@ fn answer_text(alloc: Global, answer: Answer) -> Result<String, AllocError> {
         Ok(count) => format!(in alloc; "{count}"),
         Err(fault) => format!(in alloc; "{fault}"),
     }
+}
+
+/// Brings an old file over into an empty one.
+fn attempt(alloc: Global, old: &[u8], header: &Header) -> Answer {
+    let (answer, _) = brought_over(alloc, old, MemDisk::new(alloc), header);
+    answer
 }
 
 /// Brings an old file over into a new one that has these bytes.
@@ -241,63 +384,15 @@ fn brought_over(
     }
 }
 
-/// The same, where a fuse lets so many calls of a disk pass, and the new disk that is left.
-fn stopped(
-    alloc: Global,
-    old: &[u8],
-    header: &Header,
-    fused: Fused,
-    calls: u64,
-) -> Option<(Answer, MemDisk)> {
-    let (mut from, mut to) = (disk_of(alloc, old).ok()?, MemDisk::new(alloc));
-    match fused {
-        Fused::Begin => to.fuse(Some(calls)),
-        // three calls begin it
-        Fused::New => to.fuse(Some(calls.saturating_add(3))),
-        Fused::Old => from.fuse(Some(calls)),
-    }
-    let staging = match stage(alloc, to, header) {
-        Ok(staging) => staging,
-        Err((fault, disk)) => return Some((Err(fault), disk)),
-    };
-    match staging.carry(alloc, &mut from) {
-        Ok((journal, count)) => Some((Ok(count), journal.into_disk())),
-        Err((fault, disk)) => Some((Err(fault), disk)),
-    }
-}
-
-/// Returns what opening a disk gives: the number of records, or the fault. And the disk.
-fn opened(alloc: Global, disk: MemDisk, header: &Header) -> Option<(String, MemDisk)> {
-    match Journal::adopt(alloc, disk, header) {
-        Ok((journal, records)) => {
-            let text = format!(in alloc; "{}", records.len()).ok()?;
-            Some((text, journal.into_disk()))
-        }
-        Err((fault, disk)) => Some((format!(in alloc; "{fault}").ok()?, disk)),
-    }
-}
+/// The number of records that were brought over, or the fault.
+type Answer = Result<u64, MigrateFault>;
 
 /// All bytes of a disk.
 fn content(alloc: Global, disk: &mut MemDisk) -> Option<Vec<u8>> {
     let len = disk.len().ok()?;
     let mut bytes = vec![in alloc; 0; len].ok()?;
-    disk.read_at(0, bytes.as_mut_slice()).ok()?;
-    Some(bytes)
-}
-
-/// The digits of so many of the bytes from a place on.
-fn part(alloc: Global, bytes: &[u8], at: usize, len: usize) -> Option<String> {
-    let (_, behind) = bytes.split_at_checked(at)?;
-    let (part, _) = behind.split_at_checked(len)?;
-    hex::encode(alloc, part).ok()
-}
-
-/// The disk of these words.
-fn fused_of(name: &str) -> Option<Fused> {
-    match name {
-        "begin" => Some(Fused::Begin),
-        "new" => Some(Fused::New),
-        "old" => Some(Fused::Old),
-        _ => None,
+    match disk.read_at(0, bytes.as_mut_slice()) {
+        Ok(()) => Some(bytes),
+        Err(_) => None,
     }
 }
