@@ -3,7 +3,7 @@
 # - compiles the header as C and as C++, and the programs of bindings/c against both libraries, and runs them;
 # - compares header, bindings and versions (tests/library/declarations.py);
 # - runs the tests of the Rust crate (also those in its documentation) and its examples, and those of the Python package;
-# - compares with the independent references of crates/test_rows/data (tests/library/reference.py says what);
+# - compares with independent references (tests/library/reference.py says with which);
 # - refuses each request for memory in turn (refused.c), calls everything with bytes of chance for 20 seconds (fuzz.c), and looks for
 #   leaks and reads of nothing with valgrind;
 # - runs each binding with a library of another interface: it must say so;

@@ -1,8 +1,9 @@
 #!/usr/bin/env python3
-"""tests/library/reference.py [FOLDER]: compares the library with independent reference implementations.
+"""tests/library/reference.py: compares the library with independent reference implementations.
 
-The files of FOLDER (crates/test_rows/data) named here were written by plain scripts that know the rules and the formats, and share no
-code with the product (docs/TESTS.md). `rt ci` plays them on the crates; here they are played on the C library, by the Python package:
+The files of crates/test_rows/data and tests/vectors named here were written by plain scripts that know the rules and the formats, and
+share no code with the product (docs/TESTS.md). The gate plays them on the crates and on the program; here they are played on the C library,
+by the Python package:
 
 - lives_of_the_reference.txt: what a member answers to each proposal and statement, with its toss, over its restarts: the outcome and
   all records, byte for byte, and the records that a restart begins with;
@@ -24,7 +25,8 @@ from bracha_core import (
     journal_head, read_journal, statements_frame, welcome_frame,
 )
 
-DATA = sys.argv[1] if len(sys.argv) > 1 else f"{os.path.dirname(os.path.realpath(__file__))}/../../crates/test_rows/data"
+TOP = f"{os.path.dirname(os.path.realpath(__file__))}/../.."
+FOLDERS = (f"{TOP}/crates/test_rows/data", f"{TOP}/tests/vectors")
 KINDS = {"initial": 1, "echo": 2, "ready": 3}
 VALUES = {"zero": 0, "one": 1, "sure-zero": 2, "sure-one": 3, "unsure": 4}
 CAMEL = {"Initial": 1, "Echo": 2, "Ready": 3, "Zero": 0, "One": 1, "SureZero": 2, "SureOne": 3, "Unsure": 4}
@@ -34,7 +36,8 @@ failed = 0
 
 def rows(name: str) -> Iterator[tuple[str, str]]:
     """The rows of a file, each with its place."""
-    with open(f"{DATA}/{name}", encoding="ascii") as file:
+    path = next(it for folder in FOLDERS if os.path.exists(it := f"{folder}/{name}"))
+    with open(path, encoding="ascii") as file:
         for number, line in enumerate(file, 1):
             line = line.rstrip("\n")
             if line and not line.startswith("#"):

@@ -4,7 +4,7 @@ tests/reference/fair.py --events SCRIPT
 tests/reference/fair.py --rows
 
 Plays a script as `bracha simulate` does, and prints what that prints; SCRIPT `-` is standard input. `--events` prints its events
-with their tosses, `--rows` the rows of crates/test_rows/data/fair_of_the_reference.txt. It is written from docs/FORMATS.md,
+with their tosses, `--rows` the rows of tests/vectors/fair_of_the_reference.txt. It is written from docs/FORMATS.md,
 docs/PROTOCOL.md and crates/script/README.md alone and shares nothing with the program.
 
 How many calls of its disk an opening takes is said nowhere, so a script that opens a member whose fuse hasn't burnt is refused.
@@ -709,7 +709,7 @@ def simulate(text: bytes) -> list[str]:
 # --- rows -----------------------------------------------------------------------------------------------------------------
 
 HEAD = """\
-# Scripts with lines `fair K`, and what `simulate` prints: `src/jobs.rt` says what a row is. What has to come is by
+# Scripts with lines `fair K`, and what `simulate` prints: `tests/vectors.py` says what a row is. What has to come is by
 # tests/reference/fair.py, which knows the formats and the rules alone, and writes this file.
 """
 

@@ -3,7 +3,7 @@
 tests/reference/rounds.py --rows
 
 Plays one question as `bracha rounds` does, for each seed, and prints how it ends: `decided R` or `open`. ORDER is random,
-adversary or links. `--rows` prints the rows of crates/test_rows/data/rounds_of_the_reference.txt. The orders are written from
+adversary or links. `--rows` prints the rows of tests/vectors/rounds_of_the_reference.txt. The orders are written from
 docs/LIVENESS.md and crates/script/README.md alone; the members are those of fair.py. It shares nothing with the program.
 """
 import struct
