@@ -1211,6 +1211,9 @@ def the_end_closes_all(folder, port):
         for name, line in (("one that waits", b"AWAIT 3\n"), ("one that follows", b"FOLLOW 0\n"), ("one that says half a line", b"STAT")):
             links[name] = dial(port + 9)
             links[name].sendall(line)
+        waiting = [dial(port + 9) for _ in range(8)]
+        for link in waiting:
+            link.sendall(b"AWAIT 5\n")
         time.sleep(0.5)
         found += differs("connections on which it waits before it sends", waits_for_more(process), 0)
         # A link to a peer, one from a peer, one that is to greet, a client.
@@ -1224,6 +1227,8 @@ def the_end_closes_all(folder, port):
             found.append("it goes on for eight seconds")
         took = time.monotonic() - begun
         found += differs(f"its end comes at once ({took:.1f} s)", took < 4, True)
+        found += differs("what those are told that wait", [link.recv(64) for link in waiting], [b"UNDECIDED\n"] * 8)
+        links.update((f"number {number} of those that wait", link) for number, link in enumerate(waiting))
         for name, link in links.items():
             found += differs(f"{name} is closed", link is not None and is_closed(link, 1), True)
             if link:

@@ -128,6 +128,9 @@ class Chain:
                 raise Wrong(f"member {me} ends with {run.returncode}: {self.log(me)[-300:]}")
             with open(f"{self.folder}/{me}.out", encoding="ascii") as file:
                 if file.read() == f"member {me} ready\n":
+                    # Who is ready listens.
+                    for port in (self.port + me, self.port + 50 + me):
+                        socket.create_connection((self.hosts[me], port) if port < self.port + 50 else ("127.0.0.1", port), timeout=5).close()
                     return
             time.sleep(0.01)
         raise Wrong(f"member {me} isn't ready")
@@ -223,6 +226,10 @@ def slots_over_many_epochs():
             # Slots past the epoch in front, and slots of epochs that have ended, in lines that aren't as they are to be.
             replies = desk.ask("PROPOSE 700 2", "PROPOSE 701", "PROPOSE 702 1 1", "ASK 700 1", "STATE 3 x", "AWAIT 3 ", "STATE 700", "ASK 3")
             expect(replies == ["ERR 3 bit", *["ERR 1 line"] * 5, "UNPROPOSED", f"DECIDED {bits[3]}"], f"{replies}")
+            # What is wrong first of slots that there are not, and lines that no slot makes so long.
+            replies = desk.ask("ASK 99999999999999999999 x", "PROPOSE 99999999999999999999", "PROPOSE 18446744073709551615 2",
+                               "x" * 1024 + "ASK 400", "x" * 3000, "ASK 3")
+            expect(replies == ["ERR 1 line", "ERR 1 line", "ERR 2 question", "ERR 1 line", "ERR 1 line", f"DECIDED {bits[3]}"], f"{replies}")
         names = sorted(os.listdir(it.journals(0)), key=lambda name: int(name.split(".")[0]))
         expect(names[:11] == [f"{epoch}.journal" for epoch in range(11)], f"{names}")
 
@@ -264,6 +271,15 @@ def comeback():
         await_all(it.desk(3), bits, range(160), 120.0)
         print(f"  caught up with ten epochs in {time.monotonic() - begun:.1f} s")
         decide([it.desk(me) for me in range(4)], bits, range(170, 176))
+
+
+def told_by(follower, count, limit=20.0):
+    """The slots that a follower is told until it knows so many, or nothing comes for as long."""
+    told, end = [], time.monotonic() + limit
+    while len(told) < count and time.monotonic() < end:
+        words = follower.lines.readline().split()
+        told += [int(words[1])] if words else []
+    return told
 
 
 def followers():
@@ -565,6 +581,7 @@ def late_decisions_are_told_once():
                     (beats if line == "\n" else told).append(line)
 
         threading.Thread(target=listen, daemon=True).start()
+        wait("what was decided isn't told", lambda: len(told) == 4)
         decides([1])
         lines = {slot: f"DECIDED {slot} {bits[slot]}\n" for slot in range(6)}
         wait("slot 1 isn't told", lambda: lines[1] in told)
@@ -573,6 +590,48 @@ def late_decisions_are_told_once():
         wait("slot 5 isn't told", lambda: lines[5] in told)
         wait("no empty line comes", lambda: beats)
         expect(told == [lines[slot] for slot in (0, 2, 3, 4, 1, 5)], f"{told}")
+
+
+def epochs_that_run_on_are_told():
+    """While a slot of each of two old epochs is open, since it was proposed to one member alone, followers of this one are told what was
+    decided there, proposals in other old epochs are answered, and it tells how it stands in the newest."""
+    with chain(27260, questions=2) as it:
+        bits = drawn(8)
+        desks = [it.desk(me) for me in range(4)]
+        for slot in (0, 2, 4):
+            decide(desks, bits, [slot])
+            expect(slot == 4 or desks[0].ask(f"PROPOSE {slot + 1} 1") == ["OK"], "another reply")
+        decide(desks, bits, [6, 7])
+        time.sleep(14)
+        expect("epoch 0 end" not in it.log(0) and "epoch 2 end" in it.log(0), f"other epochs end: {it.log(0)}")
+        replies = desks[0].ask("STATE 1", "STATUS")
+        expect(replies[0] != "UNPROPOSED" and replies[1].endswith(" 2"), f"it stands so in the newest: {replies}")
+        follower = it.desk(0)
+        follower.connect()
+        follower.stream.sendall(b"FOLLOW 0\n")
+        told = told_by(follower, 5)
+        expect(told == [0, 2, 4, *told[3:]] and sorted(told[3:]) == [6, 7], f"{told}")
+        begun = time.monotonic()
+        expect(desks[0].ask("PROPOSE 5 1") == ["OK"] and time.monotonic() - begun < 8, f"a proposal takes {time.monotonic() - begun:.1f} s")
+
+
+def a_burst_over_an_end_is_told():
+    """Slots of two epochs that are proposed at once, after a rest in which followers could have passed the first, are told to all of them."""
+    with chain(27280) as it:
+        bits = drawn(34)
+        desks, followers = [it.desk(me) for me in range(4)], [it.desk(me) for me in range(4)]
+        for follower in followers:
+            follower.connect()
+            follower.stream.sendall(b"FOLLOW 0\n")
+        told = [[] for _ in followers]
+        for first, last in ((0, 18), (18, 34)):
+            decide(desks, bits, range(first, last - 4))
+            time.sleep(12)
+            decide(desks, bits, range(last - 4, last))
+            for slots, follower in zip(told, followers):
+                slots += told_by(follower, last - first)
+        for me, slots in enumerate(told):
+            expect(sorted(slots) == list(range(34)), f"a follower of {me} isn't told {sorted(set(range(34)) - set(slots))}")
 
 
 def an_await_ends_with_its_epoch():
@@ -594,9 +653,53 @@ def an_await_ends_with_its_epoch():
         expect(desk.lines.readline() == f"DECIDED {bits[9]}\n".encode(), "another reply to the next AWAIT")
 
 
+def a_client_outlasts_its_epoch():
+    """Who waits for an open slot of an epoch that ends is answered then, and asks on over the same connection."""
+    with chain(27195, starts=1, n=1, t=0, questions=2) as it:
+        bits = drawn(6)
+        decide([it.desk(0)], bits, [0, 2, 4])
+        time.sleep(6)
+        desk = it.desk(0)
+        desk.connect()
+        for lines, replies in (("AWAIT 1\nASK 0", ["UNDECIDED", f"DECIDED {bits[0]}"]), ("ASK 2", [f"DECIDED {bits[2]}"]), ("AWAIT 1", ["UNDECIDED"])):
+            begun = time.monotonic()
+            desk.stream.sendall(f"{lines}\n".encode())
+            said = [desk.lines.readline().decode() for _ in replies]
+            expect(said == [f"{reply}\n" for reply in replies], f"{lines!r}: {said} after {time.monotonic() - begun:.1f} s: {it.log(0)}")
+
+
+def who_waits_for_a_place_outlasts_the_epoch():
+    """A client that waits for a place at the desk of an epoch that ends has its reply all the same."""
+    with chain(27198, starts=1, n=1, t=0, questions=2) as it:
+        decide([it.desk(0)], drawn(6), [0, 2, 4])
+        time.sleep(6)
+        clients = [it.desk(0) for _ in range(33)]
+        for client in clients:
+            client.connect()
+            client.stream.sendall(b"AWAIT 1\n")
+        replies = [client.lines.readline() for client in clients]
+        expect(replies == [b"UNDECIDED\n"] * 33, f"{replies}: {it.log(0)}")
+
+
+def who_waits_for_too_long_is_closed():
+    """While sixteen epochs run in which nothing can be decided, a client of another old one is closed after half a minute."""
+    with chain(27210, starts=1, questions=2) as it:
+        clients = [it.desk(0) for _ in range(18)]
+        for client, slot in zip(clients, [*range(0, 32, 2), 80, 50]):
+            client.connect()
+            client.stream.settimeout(60)
+            client.stream.sendall(f"PROPOSE {slot} 1\n".encode())
+            time.sleep(0.3)
+        begun = time.monotonic()
+        replies = [client.lines.readline() for client in clients]
+        took = time.monotonic() - begun
+        expect(replies == [b"OK\n"] * 17 + [b""] and 25 < took < 45, f"{replies} after {took:.1f} s")
+        expect(it.desk(0).ask("ASK 0", "EPOCHS") == ["UNDECIDED", "EPOCHS 0 40"], "other replies")
+
+
 def missed_epochs_are_made_up_for():
     """A member that was down for eleven epochs, and to which slots of the newest are proposed as soon as it is back, learns all that was
-    decided meanwhile, and calls no epoch closed before."""
+    decided meanwhile, tells its followers all of it, and calls no epoch closed before."""
     with chain(27220, starts=3) as it:
         bits = drawn(180)
         decide([it.desk(me) for me in range(3)], bits, range(176))
@@ -604,7 +707,9 @@ def missed_epochs_are_made_up_for():
         while int(it.desk(0).ask("EPOCHS")[0].split()[1]) < 10 and time.monotonic() < end:
             time.sleep(0.25)
         it.start(3)
-        desk = it.desk(3)
+        desk, follower = it.desk(3), it.desk(3)
+        follower.connect()
+        follower.stream.sendall(b"FOLLOW 0\n")
         decide([it.desk(me) for me in range(4)], bits, range(176, 180))
         end = time.monotonic() + 90
         while left := [slot for slot, reply in enumerate(desk.ask(*[f"ASK {slot}" for slot in range(176)])) if reply != f"DECIDED {bits[slot]}"]:
@@ -612,6 +717,8 @@ def missed_epochs_are_made_up_for():
             expect(left[0] >= 16 * first, f"epochs before {first} are closed, and {len(left)} slots from {left[0]} on are unknown")
             expect(time.monotonic() < end, f"{len(left)} slots from {left[0]} on aren't made up for")
             time.sleep(0.5)
+        told = told_by(follower, 180)
+        expect(sorted(told) == list(range(180)), f"a follower isn't told {sorted(set(range(180)) - set(told))[:9]}")
 
 
 def new_cluster():
@@ -725,7 +832,8 @@ def main():
     checks = [slots_over_many_epochs, dumps_name_their_clusters, restarts, comeback, followers, quiet, ends, put_away,
               put_away_while_it_runs, epochs_of_made_up_desks, closed_epochs, new_cluster, liar_and_kills]
     # These wait for epochs to end, beside the others.
-    waiting = [asks_for_closed_epochs, half_decided_epochs_end, late_decisions_are_told_once, an_await_ends_with_its_epoch,
+    waiting = [asks_for_closed_epochs, half_decided_epochs_end, late_decisions_are_told_once, epochs_that_run_on_are_told, a_burst_over_an_end_is_told,
+               an_await_ends_with_its_epoch, a_client_outlasts_its_epoch, who_waits_for_a_place_outlasts_the_epoch, who_waits_for_too_long_is_closed,
                missed_epochs_are_made_up_for]
     if LONG:
         checks, waiting = [lambda: liar_and_kills(100_000, 200, questions=1024, width=256), thousand_epochs], []

@@ -47,6 +47,13 @@ impl Asks {
         self.list.as_slice()
     }
 
+    /// Returns the seconds that have passed.
+    pub(crate) fn second(&self) -> u64
+        ensures { result ≡ self.now.second }
+    {
+        self.second
+    }
+
     /// A peer asks for an epoch. The ask stands from now on, unless the peer has asked for two
     /// others.
     pub(crate) fn hear(&mut self, ask: Ask) -> Result<(), Memory>

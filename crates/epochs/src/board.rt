@@ -157,7 +157,8 @@ impl Switchboard {
             return;
         };
         let mut state = self.state.lock(rt);
-        if peer != self.me {
+        // One whose journal was put away never runs, and takes no ask's place from another.
+        if peer != self.me && !state.is_gone(epoch) {
             let _unheard = state.ask(Ask { peer, epoch }).is_err();
         }
         match state.place_of(&self.chain, epoch) {
@@ -200,6 +201,7 @@ impl Switchboard {
     pub fn report<R: Wait>(&self, rt: &R, epoch: u64, report: Report) -> bool {
         let mut state = self.state.lock(rt);
         let rests = state.report(epoch, report).unwrap_or(false);
+        state.close_late();
         self.changed.notify_all();
         rests
     }
@@ -279,6 +281,12 @@ impl Switchboard {
         self.state.lock(rt).decided_at(epoch, place)
     }
 
+    /// Returns what a follower at another epoch's desk does, whose next decision is that at this
+    /// place of the epoch, counted in the order of its journal.
+    pub fn onward<R: Wait>(&self, rt: &R, epoch: u64, place: u16) -> Onward {
+        self.state.lock(rt).onward(&self.chain, epoch, place)
+    }
+
     /// Waits until all epochs are to end.
     pub fn await_all_ends<R: Wait>(&self, rt: &R) {
         for _ in rt.forever() {
@@ -302,6 +310,23 @@ impl Switchboard {
     pub fn is_ended(&self) -> bool {
         self.ended.load(Ordering::SeqCst)
     }
+}
+
+/// The next thing that a follower does at the desk of another epoch than that of its next
+/// decision.
+#[derive(Clone, Copy, Debug, PartialEq, Eq)]
+pub enum Onward {
+    /// The follower is told this decision: the question of the epoch, and the bit.
+    Tell(u16, bool),
+    /// The epoch runs: the follower moves to its desk.
+    Move,
+    /// The epoch is passed: it doesn't run, is behind the newest, and nothing more was decided.
+    Pass,
+    /// The epoch is behind the newest, and nothing of it is known yet: it is to be made up for. The
+    /// follower stays for a while.
+    Await,
+    /// The follower stays and looks again: the epoch ends, or hasn't begun.
+    Stay,
 }
 
 /// The desk's word on a slot whose epoch doesn't run.

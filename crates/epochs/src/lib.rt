@@ -14,8 +14,10 @@ mod state;
 mod turning;
 mod verdicts;
 
-pub use board::{Doors, Report, Stored, Switchboard};
+pub use board::{Doors, Onward, Report, Stored, Switchboard};
 pub use inbox::{Arrival, Inbox};
 pub use said::{MOST, Said};
-pub use turning::{SlotLine, Verb, asks_epochs, epochs_reply, follow_line, slot_line};
+pub use turning::{
+    SlotLine, Verb, asks_epochs, asks_standing, epochs_reply, follow_line, slot_line,
+};
 pub use verdicts::Verdicts;

@@ -1,6 +1,7 @@
 //! The epochs that run.
 
-ghost use Rattle.std.specs.Prelude.{◌≡◌, ◌≢◌, ℕ, ◌==◌, position, Option};
+ghost use Rattle.std.specs.Prelude.{◌≡◌, ◌≢◌, ◌↔◌, ◌<◌, ℕ, ◌==◌, false, position, IsTrue, Option};
+ghost use Rattle.epochs.specs.declared.running.TheConstants.{QUIET};
 ghost use Rattle.std.specs.Option.{option_map};
 ghost use Rattle.epochs.specs.Reports.{is_quiet, is_resting, noted, place_in, quiet_after, readied, running_in};
 
@@ -39,6 +40,14 @@ impl Running {
             quiet: 0,
             rests: false,
         }
+    }
+
+    /// Returns `true` if it takes the room of another epoch behind the newest: it doesn't rest, and
+    /// something has happened in it within ten seconds.
+    pub(crate) fn takes_room(&self) -> bool
+        ensures { IsTrue result ↔ ((self.now.rests ≡ false) × (self.now.quiet < QUIET)) }
+    {
+        !self.rests && self.quiet < QUIET
     }
 
     /// Notes how it stands after another second.

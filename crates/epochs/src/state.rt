@@ -9,19 +9,20 @@ ghost use Rattle.chain.specs.declared.opening.Known.{Known};
 ghost use Rattle.epochs.specs.Asking.{HasFewAsks, asks_by, tells_next};
 ghost use Rattle.epochs.specs.Asks.{heard_since, not_asked, not_for, standing};
 ghost use Rattle.epochs.specs.Opens.{IsDue, IsKept, IsKnown, IsMadeFor, IsMissed, MayRun, WasLeftOut, first_open, has_gone_quiet, least, next_change, runs, ticked};
-ghost use Rattle.epochs.specs.Parking.{WaitOn, place_of, waiting_elsewhere};
+ghost use Rattle.epochs.specs.Parking.{WaitOn, is_patient, place_of, waiting_elsewhere};
 ghost use Rattle.epochs.specs.Reports.{noted, readied, running_elsewhere, running_in};
 ghost use Rattle.epochs.specs.Verdicts.{IsUntouched, has_begun, has_open, verdict_at};
 ghost use Rattle.epochs.specs.declared.asks.TheConstants.{ASKS};
 ghost use Rattle.epochs.specs.declared.board.Doors.{Doors};
 ghost use Rattle.epochs.specs.declared.verdicts.Verdicts.{Verdicts};
+ghost use Rattle.epochs.specs.declared.board.Onward.TheVariants.{Await, Move, Pass, Stay, Tell};
 ghost use Rattle.epochs.specs.declared.board.Stored.TheVariants.{Ahead, Decided, Far, Gone, Open};
 ghost use Rattle.epochs.specs.declared.state.Place.TheVariants as place;
 ghost use Rattle.epochs.specs.declared.state.TheConstants.{AHEAD, PARKED};
 ghost use Rattle.epochs.specs.declared.running.TheConstants.{QUIET};
 
 use crate::asks::Asks;
-use crate::board::{Doors, Report, Stored};
+use crate::board::{Doors, Onward, Report, Stored};
 use crate::inbox::Arrival;
 use crate::running::{QUIET, Running, is_quiet, note_ready, note_report, place_in};
 use crate::verdicts::Verdicts;
@@ -30,10 +31,10 @@ use std::alloc::Global;
 use std::sync::Wait;
 use terms::Memory;
 
-/// The most epochs that begin to run while others do.
-const MOST: usize = 32;
+/// The most epochs that run when another one behind the newest begins.
+const MOST: usize = 16;
 
-/// The most epochs behind the newest that begin to run while others do and don't rest.
+/// The most epochs behind the newest in which something happens when another one begins.
 const BEHIND: usize = 4;
 
 /// The most of them that begin to run only because they aren't done here. The others are for peers:
@@ -45,6 +46,12 @@ const AHEAD: u64 = 64;
 
 /// The most connections that wait for epochs that don't run yet.
 const PARKED: usize = 128;
+
+/// The seconds for which a link waits for its epoch.
+const LINK_PATIENCE: u64 = 4;
+
+/// The seconds for which a client waits for its epoch.
+const CLIENT_PATIENCE: u64 = 30;
 
 /// The place to which a connection goes.
 pub(crate) enum Place<'a> {
@@ -182,8 +189,8 @@ impl State {
         Place::Nowhere
     }
 
-    /// Returns an epoch that is to run and doesn't: the newest, the one in front of it, or one of
-    /// those for which somebody asks.
+    /// Returns an epoch that is to run and doesn't: the newest, the one in front of it, one for
+    /// which a client waits, or one of those for which somebody asks.
     pub(crate) fn due(&self, chain: &Chain) -> Option<u64>
         ensures due { IfSome result (IsDue chain.now self.now) }
         ensures newest { (epoch : ℕ) → self.now.newest ≤ epoch → epoch ≤ self.now.newest + 1 →
@@ -195,6 +202,9 @@ impl State {
         }
         if self.is_due(chain, front) {
             return Some(front);
+        }
+        if let Some(epoch) = self.due_for_clients(chain) {
+            return Some(epoch);
         }
         if let Some(epoch) = self.due_to_make_up(chain) {
             return Some(epoch);
@@ -208,6 +218,26 @@ impl State {
             Some(ask) => Some(ask.epoch),
             None => None,
         }
+    }
+
+    /// Returns an epoch for which a client waits, however many others are made up for meanwhile.
+    fn due_for_clients(&self, chain: &Chain) -> Option<u64>
+        ensures { IfSome result (IsDue chain.now self.now) }
+    {
+        if self.running.len() >= MOST {
+            return None;
+        }
+        match self.parked.iter().find(|one| self.is_awaited(chain, one)) {
+            Some(one) => Some(one.epoch),
+            None => None,
+        }
+    }
+
+    /// Returns `true` if this is a client, and its epoch is to run and doesn't.
+    fn is_awaited(&self, chain: &Chain, parked: &Parked) -> bool
+        ensures { IsTrue result → IsDue chain.now self.now parked.now.epoch }
+    {
+        !parked.is_link && self.is_to_begin(chain, parked.epoch)
     }
 
     /// Returns an epoch that isn't done here and that is to run for that, if there is room for one.
@@ -227,7 +257,7 @@ impl State {
     fn made_up_for(&self) -> usize {
         self.running
             .iter()
-            .filter(|one| one.epoch < self.newest && !one.rests)
+            .filter(|one| one.epoch < self.newest && one.takes_room())
             .filter(|one| self.undone.iter().any(|epoch| *epoch == one.epoch))
             .count()
     }
@@ -238,9 +268,14 @@ impl State {
         ensures newest { self.now.newest ≤ epoch → IsDue chain.now self.now epoch →
             IsTrue result }
     {
-        !self.runs(epoch)
-            && self.is_to_run(chain, epoch)
-            && (epoch >= self.newest || self.has_room())
+        self.is_to_begin(chain, epoch) && (epoch >= self.newest || self.has_room())
+    }
+
+    /// Returns `true` if this epoch is to run, and doesn't.
+    fn is_to_begin(&self, chain: &Chain, epoch: u64) -> bool
+        ensures { IsTrue result ↔ IsDue chain.now self.now epoch }
+    {
+        !self.runs(epoch) && self.is_to_run(chain, epoch)
     }
 
     /// Returns `true` if the epoch is to run, by the rules. One whose journal was put away never
@@ -256,11 +291,11 @@ impl State {
         self.behind() < BEHIND && self.running.len() < MOST
     }
 
-    /// Returns how many epochs behind the newest run and don't rest.
+    /// Returns how many epochs behind the newest take the room of another.
     fn behind(&self) -> usize {
         self.running
             .iter()
-            .filter(|one| one.epoch < self.newest && !one.rests)
+            .filter(|one| one.epoch < self.newest && one.takes_room())
             .count()
     }
 
@@ -571,7 +606,12 @@ impl State {
     pub(crate) fn park(&mut self, epoch: u64, is_link: bool, arrival: Arrival)
         ensures parked { (self.new.parked.items ≡ self.old.parked.items)
             ⊎ (self.new.parked.items ≡ self.old.parked.items
-            ++ record { epoch = epoch; is_link = is_link; arrival = arrival } ∷ []) }
+            ++ record {
+              epoch = epoch;
+              is_link = is_link;
+              since = self.old.asks.second;
+              arrival = arrival;
+            } ∷ []) }
         ensures full { PARKED ≤ length self.old.parked.items →
             self.new.parked.items ≡ self.old.parked.items }
         ensures counted { self.new.changes ≡ next_change self.old.changes }
@@ -587,9 +627,20 @@ impl State {
         let parked = Parked {
             epoch,
             is_link,
+            since: self.asks.second(),
             arrival,
         };
         let _closed = self.parked.push(parked).is_err();
+    }
+
+    /// Closes the connections that have waited for too long: their clients and peers come again.
+    pub(crate) fn close_late(&mut self)
+        ensures patient { self.new.parked.items
+            ≡ filter (is_patient self.old.asks.second) self.old.parked.items }
+        ensures rest { self.new ≡ record self.old { parked = self.new.parked } }
+    {
+        let now = self.asks.second();
+        self.parked.retain(|one| one.is_patient(now));
     }
 
     /// Notes how an epoch stands that runs. One without progress for ten seconds is done if nothing
@@ -831,25 +882,6 @@ impl State {
         self.changes = self.changes.wrapping_add(1);
     }
 
-    /// Returns `true` if an epoch that runs is to end: by the rules it isn't open.
-    pub(crate) fn is_over(&self, chain: &Chain, epoch: u64) -> bool
-        ensures { (known : Known) → IsKnown self.now known →
-            ((result ≡ false) ↔ IsOpenEpoch (chain_size chain.now) known epoch) }
-    {
-        !chain.is_open(&self.known(), epoch)
-    }
-
-    /// Returns what the member knows of its chain.
-    fn known(&self) -> Known<'_>
-        ensures { IsKnown self.now result }
-    {
-        Known {
-            newest: self.newest,
-            undone: self.undone.as_slice(),
-            asks: self.asks.list(),
-        }
-    }
-
     /// Returns `true` if the epoch runs.
     pub(crate) fn runs(&self, epoch: u64) -> bool
         ensures { result ≡ runs self.now epoch }
@@ -870,6 +902,76 @@ impl State {
         match self.running_at(epoch) {
             Some(running) => running.quiet >= QUIET,
             None => true,
+        }
+    }
+
+    /// Returns what a follower at another epoch's desk does, whose next decision is that at this
+    /// place of the epoch, counted in the order of its journal. It passes no epoch that runs: what
+    /// is decided there its own desk tells.
+    pub(crate) fn onward(&self, chain: &Chain, epoch: u64, place: u16) -> Onward
+        ensures tell { (question : ℕ) (bit : Bool) → result ≡ Tell question bit →
+            (running_in self.now.running.items epoch ≡ None)
+            × IfSome (slice_get self.now.verdicts.items epoch)
+            (λ one. (slice_get one.order.items place ≡ Some question)
+            × (verdict_at one question ≡ Some bit)) }
+        ensures told { (verdicts : Verdicts) (question : ℕ) (bit : Bool) →
+            running_in self.now.running.items epoch ≡ None →
+            slice_get self.now.verdicts.items epoch ≡ Some verdicts →
+            slice_get verdicts.order.items place ≡ Some question →
+            verdict_at verdicts question ≡ Some bit → result ≡ Tell question bit }
+        ensures moves { (known : Known) → IsKnown self.now known → (result ≡ Move)
+            ↔ ((running_in self.now.running.items epoch ≢ None)
+            × IsOpenEpoch (chain_size chain.now) known epoch) }
+        ensures pass { result ≡ Pass → (running_in self.now.running.items epoch ≡ None)
+            × (epoch < self.now.newest) }
+        ensures passes { running_in self.now.running.items epoch ≡ None →
+            epoch < self.now.newest → result ≢ Stay }
+        ensures missed { result ≡ Await → Contains self.now.undone.items epoch }
+    {
+        if self.running_at(epoch).is_some() {
+            return if self.is_over(chain, epoch) {
+                Onward::Stay
+            } else {
+                Onward::Move
+            };
+        }
+        match self.decided_at(epoch, place) {
+            Some((question, bit)) => Onward::Tell(question, bit),
+            None if epoch >= self.newest => Onward::Stay,
+            None if self.is_missed(epoch) => Onward::Await,
+            None => Onward::Pass,
+        }
+    }
+
+    /// Returns `true` if nothing of the epoch is known and it isn't done: it is to be made up for.
+    fn is_missed(&self, epoch: u64) -> bool
+        ensures { IsTrue result → Contains self.now.undone.items epoch }
+    {
+        if !self.undone.contains(&epoch) {
+            return false;
+        }
+        match self.verdicts.get(epoch as usize) {
+            Some(verdicts) => !verdicts.has_begun(),
+            None => false,
+        }
+    }
+
+    /// Returns `true` if an epoch that runs is to end: by the rules it isn't open.
+    pub(crate) fn is_over(&self, chain: &Chain, epoch: u64) -> bool
+        ensures { (known : Known) → IsKnown self.now known →
+            ((result ≡ false) ↔ IsOpenEpoch (chain_size chain.now) known epoch) }
+    {
+        !chain.is_open(&self.known(), epoch)
+    }
+
+    /// Returns what the member knows of its chain.
+    fn known(&self) -> Known<'_>
+        ensures { IsKnown self.now result }
+    {
+        Known {
+            newest: self.newest,
+            undone: self.undone.as_slice(),
+            asks: self.asks.list(),
         }
     }
 
@@ -930,7 +1032,7 @@ impl State {
     }
 
     /// Returns `true` if the epoch's journal was put away.
-    fn is_gone(&self, epoch: u64) -> bool
+    pub(crate) fn is_gone(&self, epoch: u64) -> bool
         ensures kept { result ≡ false → IsKept self.now epoch }
         ensures gone { result ≡ true → IsKept self.now epoch → ⊥ }
     {
@@ -946,7 +1048,23 @@ impl State {
 struct Parked {
     epoch: u64,
     is_link: bool,
+    /// The second in which it began to wait.
+    since: u64,
     arrival: Arrival,
+}
+
+impl Parked {
+    /// Returns `true` if it may wait on at that second: a peer dials anew after four.
+    fn is_patient(&self, now: u64) -> bool
+        ensures { result ≡ is_patient now self.now }
+    {
+        let limit = if self.is_link {
+            LINK_PATIENCE
+        } else {
+            CLIENT_PATIENCE
+        };
+        now.saturating_sub(self.since) <= limit
+    }
 }
 
 /// Returns the place of the first that waits for this epoch.

@@ -145,6 +145,28 @@ pub fn asks_epochs(line: &[u8]) -> bool
     is(line, "EPOCHS") || is(line, "EPOCHS\r")
 }
 
+/// Returns `true` if a line asks how a member stands, which the desk of the newest epoch answers.
+pub fn asks_standing(line: &[u8]) -> bool
+    ensures { IsTrue result ↔ (((line.now ≡ codes "STATUS") ⊎ (line.now ≡ codes "STATUS\r"))
+        ⊎ ((line.now ≡ codes "LINKS") ⊎ (line.now ≡ codes "LINKS\r"))) }
+{
+    asks_status(line) || asks_links(line)
+}
+
+/// Returns `true` if a line asks how much a member has said and decided.
+fn asks_status(line: &[u8]) -> bool
+    ensures { IsTrue result ↔ ((line.now ≡ codes "STATUS") ⊎ (line.now ≡ codes "STATUS\r")) }
+{
+    is(line, "STATUS") || is(line, "STATUS\r")
+}
+
+/// Returns `true` if a line asks for a member's links.
+fn asks_links(line: &[u8]) -> bool
+    ensures { IsTrue result ↔ ((line.now ≡ codes "LINKS") ⊎ (line.now ≡ codes "LINKS\r")) }
+{
+    is(line, "LINKS") || is(line, "LINKS\r")
+}
+
 /// Returns the reply: the first epoch that isn't closed, and the newest.
 pub fn epochs_reply(first: u64, newest: u64) -> Said {
     let mut digits = Buffer::new();

@@ -11,6 +11,7 @@ use machine::Machine;
 use node::{Hub, Naming};
 use std::alloc::Global;
 use std::net::IpAddr;
+use std::sync::atomic::{AtomicU64, Ordering};
 use std::sync::{Condvar, Mutex, Wait};
 
 /// The places of peers that are to greet and of clients, and the open sockets.
@@ -21,6 +22,8 @@ pub(crate) struct Admission {
     slots: Mutex<Slots>,
     /// A client has left its slot, or a second has passed: for those that wait for one.
     left: Condvar,
+    /// The number of clients that are being answered: those of whom no line is waited for.
+    answering: AtomicU64,
 }
 
 impl Admission {
@@ -31,6 +34,7 @@ impl Admission {
             sockets: Mutex::new(Sockets::new(alloc)),
             slots: Mutex::new(Slots::new(clients)),
             left: Condvar::new(),
+            answering: AtomicU64::new(0),
         }
     }
 
@@ -136,6 +140,21 @@ impl Admission {
     /// The client in that slot is heard, at that second.
     pub(crate) fn hear_client<R: Wait>(&self, rt: &R, slot: u8, now: u64) {
         self.slots.lock(rt).hear(slot, now);
+    }
+
+    /// A client is being answered from now on.
+    pub(crate) fn begin_answering(&self) {
+        let _before = self.answering.fetch_add(1, Ordering::SeqCst);
+    }
+
+    /// A client has its replies, and its next line is waited for, or its session ends.
+    pub(crate) fn end_answering(&self) {
+        let _before = self.answering.fetch_sub(1, Ordering::SeqCst);
+    }
+
+    /// Returns `true` if a client is being answered.
+    pub(crate) fn is_answering(&self) -> bool {
+        self.answering.load(Ordering::SeqCst) > 0
     }
 
     /// Ends a client's session: its slot is given back, and its socket closed.

@@ -48,7 +48,10 @@ impl<D: Disk, J: Life, R: Wait> Stream for Client<'_, D, J, R> {
     ghost is_closed = { λ client. is_closed_net client.stream };
 
     fn read(&mut self, buf: &mut [u8]) -> Result<usize, StreamFault> {
-        match self.stream.read(buf) {
+        self.shared.admission.end_answering();
+        let read = self.stream.read(buf);
+        self.shared.admission.begin_answering();
+        match read {
             Ok(count) => {
                 self.note(count);
                 Ok(count)
@@ -187,7 +190,10 @@ impl<D: Disk, J: Life> Shared<D, J> {
             hub: &self.hub,
             turns: &self.turns,
         };
-        Some(serve(rt, desk, &mut pass, &mut *tosser, stream))
+        self.admission.begin_answering();
+        let end = serve(rt, desk, &mut pass, &mut *tosser, stream);
+        self.admission.end_answering();
+        Some(end)
     }
 }
 

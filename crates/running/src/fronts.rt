@@ -55,6 +55,7 @@ pub fn run_fronts<O: Operator, R: Machine>(
         hosts,
     };
     let doors = &opened;
+    operator.ready()?;
     thread::scope(thread::scope_env(), rt, |scope| -> Result<(), RunFault> {
         let (listener, hosts) = (&doors.links.listener, &doors.hosts);
         if scope

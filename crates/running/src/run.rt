@@ -507,8 +507,8 @@ fn run_local<D: Disk + Send, J: Life + Send + Sync, O: Operator, R: Machine>(
             operator.unstarted();
             Err(RunFault::Memory)
         };
-        shared.close(rt);
         doors.shut(rt);
+        shared.close(rt);
         end
     })
 }

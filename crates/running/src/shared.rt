@@ -17,7 +17,9 @@ use crate::life::Life;
 use crate::logger::Logger;
 use crate::places::GREETINGS;
 use crate::refusals::Refusal;
-use crate::timing::{ACCEPT_PAUSE, BOOK_PAUSE, BOOK_TRIES, SEAT_PAUSE, SEAT_TRIES};
+use crate::timing::{
+    ACCEPT_PAUSE, BOOK_PAUSE, BOOK_TRIES, LEAVE_PAUSE, LEAVE_TRIES, SEAT_PAUSE, SEAT_TRIES,
+};
 use crate::tossers::LockedTossers;
 use desk::Turns;
 use disk::Disk;
@@ -76,15 +78,37 @@ impl<D: Disk, J: Life> Shared<D, J> {
         (hub, seats)
     }
 
-    /// Brings the member to its end: who waits for a tick or for the bell goes on, and each socket
-    /// is shut down. One that hasn't spoken yet never does.
+    /// Brings the member to its end: who waits for a tick or for the bell goes on, clients have
+    /// their replies, and each socket is shut down. One that hasn't spoken yet never does.
     pub(crate) fn close<R: Machine>(&self, rt: &R) {
         self.ending.begin();
         self.clock.tick(rt);
         self.end_unheard(rt);
         self.hub.shut(rt);
+        self.let_clients_leave(rt);
         self.admission.close(rt);
         self.call_teller_of_followers(rt);
+    }
+
+    /// Waits until clients may be cut off, but no longer than two seconds.
+    fn let_clients_leave<R: Machine>(&self, rt: &R) {
+        for _ in 0..LEAVE_TRIES {
+            if self.have_clients_left(rt) {
+                return;
+            }
+            thread::sleep(rt, Duration::from_millis(LEAVE_PAUSE));
+        }
+    }
+
+    /// Returns `true` if each client has its replies, and if those of an epoch that ends have left
+    /// for the newest.
+    fn have_clients_left<R: Machine>(&self, rt: &R) -> bool {
+        match &self.chain {
+            Some(chain) if !chain.board.is_ended() => {
+                !self.admission.sockets.lock(rt).have_clients()
+            }
+            _ => !self.admission.is_answering(),
+        }
     }
 
     /// A member that listens still is stopped, so that who waits for it to speak says nothing.
@@ -323,11 +347,22 @@ impl<D: Disk, J: Life> Shared<D, J> {
     /// for it then. Who was silent longest goes first, and the new one is answered once that one's
     /// session has ended.
     pub(crate) fn admit_client<R: Machine>(&self, rt: &R, arrival: Arrival) -> Option<Chair> {
-        let slot = self.admission.await_slot(rt, &self.ending, &self.hub)?;
+        let Some(slot) = self.admission.await_slot(rt, &self.ending, &self.hub) else {
+            self.send_on(rt, arrival);
+            return None;
+        };
         if let Some(silent) = slot.displaced() {
             self.displace(rt, slot.slot(), silent);
         }
         self.admission.admit_client(rt, slot, arrival)
+    }
+
+    /// Sends a client that came too late for this epoch on to the newest. A member of no chain
+    /// closes it.
+    fn send_on<R: Machine>(&self, rt: &R, arrival: Arrival) {
+        if let Some(chain) = &self.chain {
+            chain.board.hand_client(rt, None, arrival);
+        }
     }
 
     /// Closes the client in that slot for another, since it was silent for so many seconds, which

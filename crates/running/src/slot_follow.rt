@@ -4,10 +4,10 @@ ghost use Rattle.std.specs.Prelude.{◌≡◌, ◌≤◌, ◌+◌, ◌^◌, IfSo
 use crate::epoch::InChain;
 use crate::life::Life;
 use crate::shared::Shared;
-use crate::timing::{FOLLOWER_SILENCE, SLOT_PAUSE};
+use crate::timing::{FOLLOWER_SILENCE, MISSED_LIMIT, PASS_LIMIT, SLOT_PAUSE};
 use chain::Slot;
 use disk::Disk;
-use epochs::Said;
+use epochs::{Onward, Said};
 use machine::Machine;
 use std::alloc::Global;
 use std::io::Write;
@@ -33,11 +33,12 @@ pub(crate) fn follow<D: Disk, J: Life, R: Machine>(
         next: from,
         left: Vec::new(shared.alloc),
         told: shared.hub.seconds(),
+        since: None,
     };
     for _ in rt.forever() {
         let decided = shared.hub.decided();
         if shared.is_closing() {
-            return None;
+            return Some((None, follower.line(shared.alloc)?));
         }
         match follower.turn(rt, shared, chain, socket)? {
             Turn::Goes => {}
@@ -63,6 +64,8 @@ struct SlotFollower {
     left: Vec<Left>,
     /// The second in which it was told something last.
     told: u64,
+    /// The second since which the epoch of the next decision could be passed, if it could.
+    since: Option<u64>,
 }
 
 impl SlotFollower {
@@ -75,21 +78,73 @@ impl SlotFollower {
         socket: &mut TcpStream,
     ) -> Option<Turn> {
         let next = chain.board.chain().slot_of(self.next);
+        if next.epoch == chain.epoch {
+            return self.turn_here(rt, shared, chain, socket);
+        }
+        match chain.board.onward(rt, next.epoch, next.question) {
+            Onward::Tell(question, bit) => {
+                let slot = Slot {
+                    epoch: next.epoch,
+                    question,
+                };
+                self.tell_next(shared, chain, socket, (slot, bit))
+            }
+            Onward::Move => Some(Turn::Elsewhere(next.epoch)),
+            Onward::Pass => self.pass(chain, next),
+            Onward::Await => self.pass_after(shared, chain, MISSED_LIMIT),
+            Onward::Stay => Some(Turn::Waits),
+        }
+    }
+
+    /// The same if the next decision is one of this epoch.
+    fn turn_here<D: Disk, J: Life, R: Machine>(
+        &mut self,
+        rt: &R,
+        shared: &Shared<D, J>,
+        chain: &InChain,
+        socket: &mut TcpStream,
+    ) -> Option<Turn> {
+        let next = chain.board.chain().slot_of(self.next);
         if let Some(decided) = decision_at(rt, shared, chain, (next.epoch, next.question)) {
-            tell(shared, chain, socket, decided)?;
-            self.next = self.next.checked_add(1)?;
-            self.told = shared.hub.seconds();
-            return Some(Turn::Goes);
+            return self.tell_next(shared, chain, socket, decided);
         }
-        let epoch = next.epoch;
-        if chain.board.is_passed(rt, epoch) {
-            return self.pass(chain, next);
+        if chain.board.is_passed(rt, next.epoch) {
+            // The board hears once a second how quiet it is: something may have begun since.
+            let is_over = chain.board.is_over(rt, next.epoch);
+            return self.pass_after(shared, chain, if is_over { 0 } else { PASS_LIMIT });
         }
-        let is_elsewhere = epoch != chain.epoch && chain.board.runs(rt, epoch);
-        if is_elsewhere && !chain.board.is_over(rt, epoch) {
-            return Some(Turn::Elsewhere(epoch));
-        }
+        self.since = None;
         Some(Turn::Waits)
+    }
+
+    /// Passes the epoch of the next place once it could be passed for so many seconds.
+    fn pass_after<D: Disk, J: Life>(
+        &mut self,
+        shared: &Shared<D, J>,
+        chain: &InChain,
+        seconds: u64,
+    ) -> Option<Turn> {
+        let now = shared.hub.seconds();
+        let since = *self.since.get_or_insert(now);
+        if now.saturating_sub(since) < seconds {
+            return Some(Turn::Waits);
+        }
+        self.pass(chain, chain.board.chain().slot_of(self.next))
+    }
+
+    /// Tells the next decision; none if it can't be told.
+    fn tell_next<D: Disk, J: Life>(
+        &mut self,
+        shared: &Shared<D, J>,
+        chain: &InChain,
+        socket: &mut TcpStream,
+        decided: (Slot, bool),
+    ) -> Option<Turn> {
+        tell(shared, chain, socket, decided)?;
+        self.next = self.next.checked_add(1)?;
+        self.told = shared.hub.seconds();
+        self.since = None;
+        Some(Turn::Goes)
     }
 
     /// Passes the epoch of the next place: decisions that come late are told too.
@@ -106,12 +161,12 @@ impl SlotFollower {
             place: next.question,
         };
         let _forgotten = self.left.push(left).is_err();
+        self.since = None;
         self.next = chain.board.chain().number_of(first)?;
         Some(Turn::Goes)
     }
 
-    /// Tells a decision that came late in an epoch that was passed, if there is one; none if it
-    /// can't be told.
+    /// Tells the decisions that came late in epochs that were passed; none if one can't be told.
     fn tell_late<D: Disk, J: Life, R: Machine>(
         &mut self,
         rt: &R,
@@ -120,9 +175,7 @@ impl SlotFollower {
         socket: &mut TcpStream,
     ) -> Option<()> {
         for left in self.left.iter_mut() {
-            if let Some(decided) = decision_at(rt, shared, chain, (left.epoch, left.place)) {
-                tell(shared, chain, socket, decided)?;
-                left.pass_on()?;
+            if left.tell(rt, shared, chain, socket)? {
                 self.told = shared.hub.seconds();
             }
         }
@@ -180,6 +233,26 @@ struct Left {
 }
 
 impl Left {
+    /// Tells the decisions that came late, and returns `true` if there was one; none if one can't
+    /// be told.
+    fn tell<D: Disk, J: Life, R: Machine>(
+        &mut self,
+        rt: &R,
+        shared: &Shared<D, J>,
+        chain: &InChain,
+        socket: &mut TcpStream,
+    ) -> Option<bool> {
+        let begun = self.place;
+        for _ in begun..u16::MAX {
+            let Some(decided) = decision_at(rt, shared, chain, (self.epoch, self.place)) else {
+                break;
+            };
+            tell(shared, chain, socket, decided)?;
+            self.pass_on()?;
+        }
+        Some(self.place != begun)
+    }
+
     /// Goes on by a place of the same epoch, so that no decision of another is told for it.
     fn pass_on(&mut self) -> Option<()>
         ensures epoch { self.new.epoch ≡ self.old.epoch }

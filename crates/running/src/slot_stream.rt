@@ -10,7 +10,9 @@ use crate::shared::Shared;
 use crate::sockets::shut;
 use crate::timing::{CLIENT_SILENCE, EPOCH_LIMIT};
 use disk::Disk;
-use epochs::{Said, SlotLine, Stored, Verb, asks_epochs, epochs_reply, follow_line, slot_line};
+use epochs::{
+    Said, SlotLine, Stored, Verb, asks_epochs, asks_standing, epochs_reply, follow_line, slot_line,
+};
 use ghost_record::GhostRecord;
 use links::{Stream, StreamCall, StreamFault, Trace};
 use member::Sealed;
@@ -38,7 +40,6 @@ enum Stock {
     Decided(bool),
     Undecided,
     Unproposed,
-    NoQuestion,
     Gone,
 }
 
@@ -50,7 +51,6 @@ impl Stock {
             Stock::Decided(true) => "DECIDED 1\n",
             Stock::Undecided => "UNDECIDED\n",
             Stock::Unproposed => "UNPROPOSED\n",
-            Stock::NoQuestion => "ERR 2 question\n",
             Stock::Gone => "ERR 5 gone\n",
         }
     }
@@ -104,6 +104,7 @@ impl<'a, D: Disk, J: Life, R: Wait> SlotStream<'a, D, J, R> {
                 away: None,
                 silent: 0,
                 waits: None,
+                is_long: false,
             },
             closed: false,
             trace: GhostRecord::new(),
@@ -181,13 +182,20 @@ struct SlotLines<'a, D: Disk, J: Life, R> {
     silent: u64,
     /// The second in which the first line began to wait, if it does.
     waits: Option<u64>,
+    /// The line that is read is longer than any that names a slot: the desk is given all of it.
+    is_long: bool,
 }
 
 impl<D: Disk, J: Life, R: Wait> SlotLines<'_, D, J, R> {
-    /// Goes on until the desk has bytes to read, or there are none to come.
+    /// Goes on until the desk has bytes to read, or there are none to come. Once the epoch's member
+    /// ends the client is to leave for the newest.
     fn advance(&mut self) -> Result<(), StreamFault> {
         for _ in self.rt.forever() {
             if !self.out.bytes().is_empty() && !self.has_another() {
+                return Ok(());
+            }
+            if self.out.bytes().is_empty() && !self.is_long && self.is_ending() {
+                self.away = Some(Away::ToNewest);
                 return Ok(());
             }
             if !self.step()? {
@@ -197,9 +205,17 @@ impl<D: Disk, J: Life, R: Wait> SlotLines<'_, D, J, R> {
         unreachable!()
     }
 
+    /// Returns `true` if this epoch's member ends and the chain goes on.
+    fn is_ending(&self) -> bool {
+        self.shared.is_closing() && !self.chain.board.is_ended()
+    }
+
     /// Returns `true` if the desk is to read the next line together with those that it reads next:
     /// it was read already, this epoch's desk answers it, and there is room.
     fn has_another(&self) -> bool {
+        if self.is_long {
+            return false;
+        }
         let Some(length) = self.said.line_end() else {
             return false;
         };
@@ -214,22 +230,44 @@ impl<D: Disk, J: Life, R: Wait> SlotLines<'_, D, J, R> {
 
     /// Goes on until the desk has bytes to read: `false` if there are none to come.
     fn step(&mut self) -> Result<bool, StreamFault> {
+        if self.is_long {
+            return self.step_long();
+        }
         match self.said.line_end() {
             Some(length) => self.step_line(length, b"\n"),
             None if self.said.room() == 0 => {
-                self.out = self.said;
-                self.said = Said::nothing();
+                self.is_long = true;
                 Ok(true)
             }
             None => self.fill(),
         }
     }
 
+    /// Hands on to the desk what was read of a long line.
+    fn step_long(&mut self) -> Result<bool, StreamFault> {
+        let kept = self.said.bytes().len();
+        if kept == 0 {
+            return self.fill();
+        }
+        let end = self.said.line_end();
+        let count = match end {
+            Some(length) => length.saturating_add(1).min(kept),
+            None => kept,
+        };
+        self.out.extend(&self.said.bytes()[..count]);
+        self.said.drop_front(count);
+        self.is_long = end.is_none();
+        Ok(true)
+    }
+
     /// Reads more: `false` at the end of the input, or if the client is to leave.
     fn fill(&mut self) -> Result<bool, StreamFault> {
         let mut piece = [0u8; PIECE];
         let room = self.said.room().min(PIECE);
-        match self.socket.read(&mut piece[..room]) {
+        self.shared.admission.end_answering();
+        let read = self.socket.read(&mut piece[..room]);
+        self.shared.admission.begin_answering();
+        match read {
             Ok(0) => {
                 let left = self.said.bytes().len();
                 if left == 0 {
@@ -291,6 +329,9 @@ impl<D: Disk, J: Life, R: Wait> SlotLines<'_, D, J, R> {
         match slot_line(line) {
             Some(line) => self.turn_slot(&line),
             None if asks_epochs(line) => Turn::Epochs,
+            None if asks_standing(line) && self.is_behind() => {
+                Turn::Away(self.chain.board.newest(self.rt))
+            }
             None => {
                 let mut plain = Said::nothing();
                 plain.extend(line);
@@ -299,10 +340,16 @@ impl<D: Disk, J: Life, R: Wait> SlotLines<'_, D, J, R> {
         }
     }
 
+    /// Returns `true` if this epoch isn't the newest.
+    fn is_behind(&self) -> bool {
+        self.chain.board.newest(self.rt) != self.chain.epoch
+    }
+
     /// Returns what becomes of a line that names a slot.
     fn turn_slot(&self, line: &SlotLine<'_>) -> Turn {
+        // The desk says what is wrong first of a line on a slot that there is not.
         let Some(number) = line.slot else {
-            return Turn::Reply(Stock::NoQuestion);
+            return Turn::Here(line.for_question(u16::MAX));
         };
         let slot = self.chain.board.chain().slot_of(number);
         if slot.epoch == self.chain.epoch {
@@ -312,7 +359,9 @@ impl<D: Disk, J: Life, R: Wait> SlotLines<'_, D, J, R> {
             return Turn::Here(line.for_question(slot.question));
         }
         match self.chain.board.stored(self.rt, slot.epoch, slot.question) {
-            // The desk of this epoch says what is wrong with it.
+            Some(Stored::Far) if line.verb == Verb::Propose => {
+                Turn::Here(line.for_question(u16::MAX))
+            }
             Some(_) if !line.is_whole() => Turn::Here(line.for_question(0)),
             Some(stored) => {
                 if stored == Stored::Ahead && line.verb == Verb::Propose {
@@ -374,7 +423,6 @@ impl<D: Disk, J: Life, R: Wait> SlotLines<'_, D, J, R> {
 fn stored_turn(stored: Stored, verb: Verb, epoch: u64) -> Turn {
     match (stored, verb) {
         (Stored::Gone, _) => Turn::Reply(Stock::Gone),
-        (Stored::Far, Verb::Propose) => Turn::Reply(Stock::NoQuestion),
         (Stored::Decided(bit), Verb::Ask | Verb::Await | Verb::State) => {
             Turn::Reply(Stock::Decided(bit))
         }
@@ -383,7 +431,7 @@ fn stored_turn(stored: Stored, verb: Verb, epoch: u64) -> Turn {
         (Stored::Ahead | Stored::Far, Verb::State) => Turn::Reply(Stock::Unproposed),
         (Stored::Ahead | Stored::Far, Verb::Await) => Turn::Waits,
         (Stored::Decided(_), Verb::Propose | Verb::Transcript) => Turn::Away(epoch),
-        (Stored::Ahead, Verb::Propose) => Turn::Away(epoch),
+        (Stored::Ahead | Stored::Far, Verb::Propose) => Turn::Away(epoch),
         (Stored::Open, Verb::Propose | Verb::Await | Verb::Transcript | Verb::State) => {
             Turn::Away(epoch)
         }

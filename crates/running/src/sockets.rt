@@ -106,6 +106,13 @@ impl Sockets {
         host
     }
 
+    /// Returns `true` if a socket is that of a client.
+    pub(crate) fn have_clients(&self) -> bool {
+        self.open
+            .iter()
+            .any(|open| matches!(open, Some(open) if open.slot.is_some()))
+    }
+
     /// Takes in the socket of a link to that member, which was dialled at that tick, like
     /// `enter_client`.
     pub(crate) fn enter_to(&mut self, socket: TcpStream, peer: u8, tick: u64) -> Option<usize> {

@@ -83,8 +83,21 @@ pub(crate) const ROUND_PAUSE: u64 = 100;
 /// The length of the rest after a round, in times of what that took.
 pub(crate) const ROUND_TIMES: u32 = 3;
 
+/// The most times that a member which ends looks whether its clients have their replies: for two
+/// seconds.
+pub(crate) const LEAVE_TRIES: u32 = 100;
+
+/// The milliseconds between two of the [`LEAVE_TRIES`].
+pub(crate) const LEAVE_PAUSE: u64 = 20;
+
 /// The milliseconds after which a follower of a chain looks again for a decision of another epoch.
 pub(crate) const SLOT_PAUSE: u64 = 100;
+
+/// The seconds for which a follower waits at an epoch that could be passed.
+pub(crate) const PASS_LIMIT: u64 = 2;
+
+/// The same for an epoch that the member missed.
+pub(crate) const MISSED_LIMIT: u64 = 10;
 
 /// The seconds after which a follower of a chain that was told nothing is told an empty line.
 pub(crate) const FOLLOWER_SILENCE: u64 = 5;

@@ -23,7 +23,7 @@ use std::alloc::{AllocError, Global};
 use std::marker::Brand;
 use std::net::{IpAddr, SocketAddr};
 use std::os::unix::net::UnixListener;
-use std::sync::atomic::AtomicBool;
+use std::sync::atomic::{AtomicBool, Ordering};
 use std::sync::{Arc, Mutex, Wait};
 use std::time::Duration;
 use std::{io, thread};
@@ -46,6 +46,8 @@ pub(crate) struct Chained<'a> {
     made: Mutex<u64>,
     /// The failure of the first epoch that failed, which ends the others.
     failed: Mutex<Option<Failure>>,
+    /// Set once links and clients are taken in.
+    listens: AtomicBool,
 }
 
 impl Chained<'_> {
@@ -337,6 +339,7 @@ fn prepare<'a>(host: &HostRuntime, order: &ChainOrder<'a>) -> Result<Chained<'a>
         followers: order.followers,
         made: Mutex::new(0),
         failed: Mutex::new(None),
+        listens: AtomicBool::new(false),
     })
 }
 
@@ -383,9 +386,9 @@ fn run_all<R: Machine>(
     console: &mut Console<'_>,
 ) -> Result<(), RunFault> {
     let closed = Mutex::new(Ok(()));
-    let (doors, board) = (&closed, &it.board);
+    let doors = &closed;
     let run = thread::scope(thread::scope_env(), rt, |scope| -> Result<(), RunFault> {
-        let opens = move || open_doors(rt, board, fronts, unheard, doors);
+        let opens = move || open_doors(rt, it, fronts, unheard, doors);
         if scope.spawn(opens).is_err() {
             return Err(RunFault::Memory);
         }
@@ -401,15 +404,20 @@ fn run_all<R: Machine>(
 /// Takes links and clients in until all epochs are to end. Where it can't, they end.
 fn open_doors<R: Machine>(
     rt: &R,
-    board: &Switchboard,
+    it: &Chained<'_>,
     fronts: Fronts,
     unheard: &Unheard,
     closed: &Mutex<Result<(), RunFault>>,
 ) {
-    let mut operator = FrontOperator { rt, board, unheard };
-    let end = run_fronts(rt, board, fronts, &mut operator);
+    let mut operator = FrontOperator {
+        rt,
+        board: &it.board,
+        unheard,
+        listens: &it.listens,
+    };
+    let end = run_fronts(rt, &it.board, fronts, &mut operator);
     *closed.lock(rt) = end;
-    board.end(rt);
+    it.board.end(rt);
 }
 
 /// The operator of a chain's doors: they are open until all epochs are to end.
@@ -418,10 +426,13 @@ struct FrontOperator<'a, R> {
     rt: &'a R,
     board: &'a Switchboard,
     unheard: &'a Unheard,
+    /// Set once links and clients are taken in.
+    listens: &'a AtomicBool,
 }
 
 impl<R: Machine> Operator for FrontOperator<'_, R> {
     fn ready(&mut self) -> Result<(), RunFault> {
+        self.listens.store(true, Ordering::SeqCst);
         Ok(())
     }
 
@@ -469,15 +480,16 @@ fn run_epochs<R: Machine>(
     })
 }
 
-/// Tells the console that the member is ready, once the newest epoch listens. Returns `true` if it
-/// was told.
+/// Tells the console that the member is ready, once links and clients are taken in and the newest
+/// epoch runs. Returns `true` if it was told.
 fn tell_ready<R: Machine>(
     rt: &R,
     it: &Chained<'_>,
     console: &mut Console<'_>,
     is_told: bool,
 ) -> Result<bool, RunFault> {
-    if is_told || !it.board.is_ready(rt) {
+    let is_ready = it.listens.load(Ordering::SeqCst) && it.board.is_ready(rt);
+    if is_told || !is_ready {
         return Ok(is_told);
     }
     console.ready()?;
