@@ -3,6 +3,7 @@
 import ctypes
 import fcntl
 import os
+import threading
 from typing import NamedTuple, Self
 
 from ._core import RECORD, Size
@@ -59,6 +60,7 @@ class Journal:
     It holds the lock of its file, as `bracha run` does. After an OSError of `append` it is stopped: send nothing of that batch."""
 
     def __init__(self, descriptor: int, end: int) -> None:
+        self._lock = threading.Lock()
         self._file, self._end, self._stopped = descriptor, end, False
 
     @classmethod
@@ -97,22 +99,24 @@ class Journal:
     def append(self, records: bytes) -> None:
         """Saves records as one batch: writes it behind a closed gate byte, syncs, opens the gate, syncs. Then the statements among
         them may be sent. OSError: the batch is there or not, and the journal is stopped; Fault: nothing was written."""
-        if self._stopped:
-            raise OSError("the journal's disk failed before")
-        if not records:
-            return
-        batch = batch_bytes(records)
-        self._stopped = True
-        self._write(self._end, batch)
-        self._write(self._end, b"\x01")
-        self._stopped = False
-        self._end += len(batch) - 1
+        with self._lock:
+            if self._stopped:
+                raise OSError("the journal's disk failed before")
+            if not records:
+                return
+            batch = batch_bytes(records)
+            self._stopped = True
+            self._write(self._end, batch)
+            self._write(self._end, b"\x01")
+            self._stopped = False
+            self._end += len(batch) - 1
 
     def close(self) -> None:
         """Closes the file, and with it the lock."""
-        if self._file >= 0:
-            file, self._file, self._stopped = self._file, -1, True
-            os.close(file)
+        with self._lock:
+            if self._file >= 0:
+                file, self._file, self._stopped = self._file, -1, True
+                os.close(file)
 
     def __del__(self) -> None:
         self.close()

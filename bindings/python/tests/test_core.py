@@ -178,6 +178,25 @@ class Journals(unittest.TestCase):
         journal.close()
         self.assertEqual(Journal.open(self.path, MEMBER)[1], records)
 
+    def test_threads_share_it(self) -> None:
+        member, saved = Member(7, Size(4, 1, 160), 1), list[bytes]()
+
+        def appends(first: int) -> None:
+            for question in range(first, first + 20):
+                record = bytes([2, 0, question, 0, 1, 1, 1])
+                journal.append(record)
+                saved.append(record)
+
+        with Journal.create(self.path, member) as journal:
+            threads = [threading.Thread(target=appends, args=(first,)) for first in range(0, 160, 20)]
+            for thread in threads:
+                thread.start()
+            for thread in threads:
+                thread.join()
+        self.assertEqual(len(saved), 160)
+        records = Journal.open(self.path, member)[1]
+        self.assertEqual({records[at:at + 7] for at in range(0, len(records), 7)}, set(saved))
+
     def test_bytes(self) -> None:
         with Journal.create(self.path, Member(7, Size(4, 1, 1), 1)) as journal:
             journal.append(bytes([2, 0, 0, 0, 1, 1, 1]))
