@@ -27,7 +27,7 @@ class Cluster:
 
     def __init__(self, settings: Settings) -> None:
         self.settings = settings
-        self._closing = threading.Lock()
+        self._closing = threading.RLock()  # the collector may drop an iterator in a thread that has it
         self._closed = False
         self._loop = asyncio.new_event_loop()
         self._cluster = AsyncCluster(settings)

@@ -292,6 +292,27 @@ class Beside(unittest.TestCase):
                 self.assertIs(next(cluster.follow(trust=2)).bit, True)
             self.assertTrue(comes(lambda: left() == (4, threads, 4)))
 
+    def test_an_iterator_that_the_collector_drops_holds_up_no_call(self):
+        fakes = self.desks(*[true] * 4)
+        cluster = Cluster(Settings(7, 4, 1, 64, tuple(fake.desk for fake in fakes)))
+        decisions = cluster.follow()
+        next(decisions)
+        ring = [decisions]
+        ring.append(ring)  # from now on only the collector finds it
+        del decisions, ring
+        submit = asyncio.run_coroutine_threadsafe
+
+        def collect_and_submit(call, loop):
+            gc.collect()  # it may run within any call
+            return submit(call, loop)
+
+        with mock.patch("asyncio.run_coroutine_threadsafe", collect_and_submit):
+            asks = threading.Thread(target=cluster.ask, args=(3,), daemon=True)
+            asks.start()
+            asks.join(5)
+        self.assertFalse(asks.is_alive())
+        cluster.close()
+
 
 class Words(unittest.TestCase):
     def test_readings(self):
