@@ -27,6 +27,7 @@ from pathlib import Path
 
 from bracha import AsyncCluster, Settings, Stage, Undecided
 
+DIGITS = 20  # of the greatest slot that there may be
 PATIENCE = 2.5  # seconds for a slot, once values are there for it or a later one
 WINDOW = 8  # slots that are settled at once; they are entered in order
 
@@ -47,15 +48,16 @@ def save(path: Path, data: bytes) -> bytes:
 
 
 async def say(witness: int, line: str) -> list[str]:
-    """Returns the words of a witness's reply, none if it gives none in time."""
+    """Returns the words of a witness's reply, none if it gives none in time or a line without an end."""
     try:
         async with asyncio.timeout(1):
             reader, writer = await asyncio.open_unix_connection(f"witness-{witness}.socket")
-            writer.write(line.encode() + b"\n")
-            words = (await reader.readline()).decode("ascii", "replace").split()
-            writer.close()
-            return words
-    except OSError:
+            try:
+                writer.write(line.encode() + b"\n")
+                return (await reader.readline()).decode("ascii", "replace").split()
+            finally:
+                writer.close()
+    except (OSError, ValueError):  # TimeoutError is the first, a line that is too long the second
         return []
 
 
@@ -105,7 +107,7 @@ class Witness:
         begun, voted = None, False
         while True:
             replies = await asyncio.gather(*(say(witness, f"TELL {slot}") for witness in range(self.n)))
-            told = [words for words in replies if len(words) == 4 and words[3].isdecimal()]
+            told = [words for words in replies if len(words) == 4 and words[3].isdecimal() and len(words[3]) <= DIGITS]
             held, locked = (Counter(words[part] for words in told if words[part] != "-").most_common(1) for part in (0, 1))
             if held and self.is_quorum(held[0][1]):
                 save(self.folder / f"{slot}.locked", held[0][0].encode())

@@ -1,7 +1,7 @@
 #!/usr/bin/env bash
 # Shows a ledger over four members: ledger.py says how it works. Values come, in any order; a writer lies; a witness and its member
-# are killed, miss some values, and are started again; a slot whose question chance left open is given up. At the end all four
-# ledgers are the same. It takes some seconds, and ports below 32768 that are free.
+# are killed, miss some values, and are started again; a slot whose question chance left open is given up; a witness lies. At the end
+# all four ledgers are the same. It takes half a minute, and ports below 32768 that are free.
 #
 #   examples/ledger/run.sh [--epochs] [PROGRAM]     PROGRAM is bracha; left out, it is crates/bracha/out/bracha of this repository
 #
@@ -33,6 +33,23 @@ until_slots() {
     tail -n 3 ledger-* witness-*.out >&2
     exit 1
 }
+
+# Answers all that come to the socket of witness 3 with its argument: "long", a line of 70,000 bytes and no end, or "digits", a number
+# of 4,301 digits, which Python doesn't read.
+liar='
+import os, socket, sys
+if os.path.exists("witness-3.socket"):
+    os.unlink("witness-3.socket")
+server = socket.create_server("witness-3.socket", family=socket.AF_UNIX)
+print("ready", flush=True)
+while True:
+    link, _ = server.accept()
+    try:
+        link.recv(4096)
+        link.sendall(b"x" * 70000 if sys.argv[1] == "long" else b"- - - " + b"9" * 4301 + b"\n")
+    except OSError:
+        pass
+    link.close()'
 
 # spends QUESTION M: puts into the new journal of member M what it said on a question in 32 rounds without a decision: a split of the
 # members, whose votes of step 3 are always unsure. docs/FORMATS.md has the bytes of a journal.
@@ -91,6 +108,18 @@ until_slots 7 0 1 2 3
 echo '* a value comes behind a slot whose question stays open after 32 rounds'
 ledger put 8 'frank pays dave 1'
 until_slots 9 0 1 2 3
+echo '* witness 3 lies: no line that it tells has an end, then a number that it tells has none'
+ends witness-3
+begins liar python3 -c "$liar" long
+ledger put 9 'dave pays alice 2'
+until_slots 10 0 1 2
+ends liar
+begins liar python3 -c "$liar" digits
+ledger put 10 'alice pays erin 1'
+until_slots 11 0 1 2
+ends liar
+witness 3
+until_slots 11 3
 cat ledger-0
 for m in 1 2 3; do cmp ledger-0 "ledger-$m"; done
 grep -qx '5 bob pays alice 2' ledger-2 && grep -qx '3 (empty)' ledger-2 && grep -qx '6 erin pays dave 3' ledger-2
