@@ -5,16 +5,18 @@
     ledger.py lie SLOT TEXT TEXT     gives one value to half of them, and another to the others
 
 A question has one bit, and a value is bytes. So slot s is question s: "has a value's hash come into slot s for all?", and the bytes
-go from witness to witness. A witness holds the first value of a slot that it gets. It locks a hash that more than (n + t) / 2
-witnesses hold, or that more than t have locked: so no two correct witnesses lock different ones. It votes 1, at its own member, once
-2t + 1 have locked: then all correct ones will. It votes 0 if that takes too long, and a slot that is decided 0 stays empty: its
-value is to be put again. All that it holds and locks is on the disk before anybody hears of it. Here are client.toml and its folder.
+go from witness to witness. A witness holds the first value of a slot that it gets, if it is one line of text. It locks a hash that
+more than (n + t) / 2 witnesses hold, or that more than t have locked: so no two correct witnesses lock different ones. It votes 1,
+at its own member, once 2t + 1 have locked: then all correct ones will. It votes 0 if that takes too long, and a slot that is decided
+0 stays empty: its value is to be put again. All that it holds and locks is on the disk before anybody hears of it. Here are
+client.toml and its folder.
 
 Chance may leave a question open for ever, and a slot with it. So the second half of the questions asks of each slot: "is it given
-up?". In a chain of epochs, whose questions don't end, slot s has the questions 2s and 2s + 1, and both are settled. A witness takes one stand on a slot, for good: it keeps the slot once its member has decided it, or leaves it once its member
-is spent, after 32 rounds. A decision is entered once more than (n + t) / 2 witnesses keep the slot. Where as many leave it,
-a witness votes to give it up; where its member has decided and another has left, it votes not to. A slot that is given up stays
-empty. As more than half of the correct witnesses can't both keep and leave a slot, nobody enters what others give up.
+up?". In a chain of epochs, whose questions don't end, slot s has the questions 2s and 2s + 1, and both are settled. A witness takes
+one stand on a slot, for good: it keeps the slot once its member has decided it, or leaves it once its member is spent, after 32
+rounds. A decision is entered once more than (n + t) / 2 witnesses keep the slot. Where as many leave it, a witness votes to give it
+up; where its member has decided and another has left, it votes not to. A slot that is given up stays empty. As more than half of
+the correct witnesses can't both keep and leave a slot, nobody enters what others give up.
 """
 
 import asyncio
@@ -61,6 +63,14 @@ async def say(witness: int, line: str) -> list[str]:
         return []
 
 
+def is_entry(value: bytes) -> bool:
+    """Returns whether a value is one printable line of text. Another one could be read as entries of other slots."""
+    try:
+        return value.decode().isprintable()
+    except UnicodeDecodeError:
+        return False
+
+
 class Witness:
     def __init__(self, me: int, settings: Settings) -> None:
         self.me, self.n, self.t = me, settings.n, settings.t
@@ -86,9 +96,9 @@ class Witness:
 
     async def serve(self, reader: asyncio.StreamReader, writer: asyncio.StreamWriter) -> None:
         what, name, *more = (await reader.readline()).decode().split()
-        if what == "PUT" and 0 <= int(name) < self.slots:
-            digest = hashlib.sha256(bytes.fromhex(more[0])).hexdigest()
-            save(self.folder / f"{digest}.value", bytes.fromhex(more[0]))
+        if what == "PUT" and 0 <= int(name) < self.slots and is_entry(value := bytes.fromhex(more[0])):
+            digest = hashlib.sha256(value).hexdigest()
+            save(self.folder / f"{digest}.value", value)
             writer.write(save(self.folder / f"{int(name)}.held", digest.encode()) + b"\n")
         elif what == "TELL":  # what it holds and has locked in a slot, its stand, and the end of the slots in which it holds something
             held, locked, stand = (self.at(int(name), what) for what in ("held", "locked", "stand"))
@@ -164,7 +174,8 @@ class Witness:
         async with self.member, await asyncio.start_unix_server(self.serve, socket):
             print("ready", flush=True)
             slots = {slot: asyncio.create_task(self.settle(slot)) for slot in range(min(WINDOW, self.slots))}
-            with Path(f"ledger-{self.me}").open("w") as ledger:  # made anew from what is on the disk and what the member tells
+            # It is made anew from what is on the disk and what the member tells.
+            with Path(f"ledger-{self.me}").open("w", encoding="utf-8") as ledger:
                 for slot in range(self.slots):
                     value = await slots.pop(slot)
                     if slot + WINDOW < self.slots:
@@ -176,7 +187,7 @@ async def main(what: str, *words: str) -> None:
     settings = Settings.read("client.toml")
     if what == "witness":
         await Witness(int(words[0]), settings).run()
-    values = [text.encode().hex() for text in words[1:]]
+    values = [os.fsencode(text).hex() for text in words[1:]]
     for witness in range(settings.n if what in ("put", "lie") else 0):
         await say(witness, f"PUT {words[0]} {values[witness * len(values) // settings.n]}")
 

@@ -88,6 +88,9 @@ else
 fi
 for m in 0 1 2 3; do witness "$m"; done
 
+echo '* no entries: bytes that are no text, and a text that would be a line of slot 1 too'
+ledger put 0 $'\xff'
+ledger put 0 $'genesis\n1 alice pays mallory 1000'
 echo '* three values, the second last; and a writer that tells two values for slot 3'
 ledger put 0 'genesis'
 ledger put 2 'bob pays carol 5'
@@ -122,6 +125,8 @@ witness 3
 until_slots 11 3
 cat ledger-0
 for m in 1 2 3; do cmp ledger-0 "ledger-$m"; done
-grep -qx '5 bob pays alice 2' ledger-2 && grep -qx '3 (empty)' ledger-2 && grep -qx '6 erin pays dave 3' ledger-2
-grep -qx '7 (empty)' ledger-2 && grep -qx '8 frank pays dave 1' ledger-2
+for line in '0 genesis' '3 (empty)' '5 bob pays alice 2' '6 erin pays dave 3' '7 (empty)' '8 frank pays dave 1'; do
+    grep -qx "$line" ledger-2
+done
+[ "$(grep -c '^1 ' ledger-2)" = 1 ] || { echo 'slot 1 has two lines' >&2; exit 1; }
 echo 'all four ledgers are the same'
