@@ -30,9 +30,10 @@ class Party:
         self.promises: dict[int, int | None] = {}  # the change of each question, or None if it was refused
         self.outcomes: dict[int, bool] = {}
         self.log = Path(f"{name}.log")
-        if self.log.exists():
-            for line in self.log.read_text().splitlines():
-                self.take(**json.loads(line))
+        saved = self.log.read_bytes() if self.log.exists() else b""
+        self.whole = saved.rfind(b"\n") + 1  # bytes of whole lines; a crash may have left part of another, of which nobody heard
+        for line in saved[:self.whole].splitlines():
+            self.take(**json.loads(line))
 
     def take(self, question: int, change: int | None = None, commit: bool | None = None) -> None:
         if commit is None:
@@ -42,11 +43,25 @@ class Party:
             self.balance += (self.promises.get(question) or 0) if commit else 0
 
     def save(self, **entry: int | bool | None) -> None:
-        with self.log.open("a") as file:
-            file.write(json.dumps(entry) + "\n")
-            file.flush()
-            os.fsync(file.fileno())
+        """Saves a line. If the disk fails, nobody knows what it has, and the party ends."""
+        try:
+            with self.log.open("a") as file:
+                file.write(json.dumps(entry) + "\n")
+                file.flush()
+                os.fsync(file.fileno())
+        except OSError as error:
+            print(f"{self.log}: {error}", flush=True)
+            os._exit(1)
         self.take(**entry)
+
+    def begin(self) -> None:
+        """Cuts off the part of a line that a crash left, and has the disk keep the log and its name."""
+        with self.log.open("ab") as file:
+            file.truncate(self.whole)
+            os.fsync(file.fileno())
+        folder = os.open(".", os.O_RDONLY)
+        os.fsync(folder)
+        os.close(folder)
 
     def promise(self, question: int, change: int) -> bool:
         """Promises a change, unless the account may have too little for it. The same question has the same answer for ever."""
@@ -57,12 +72,14 @@ class Party:
         return self.promises[question] == change
 
     async def run(self, cluster: AsyncCluster) -> None:
+        self.begin()
         ends = {question: asyncio.create_task(self.end(cluster, question)) for question in self.promises}
 
         async def serve(reader: asyncio.StreamReader, writer: asyncio.StreamWriter) -> None:
             question, change = map(int, (await reader.readline()).split())
-            promised = self.promise(question, change)
-            if question not in ends:
+            # A promise on a question that doesn't exist would never end.
+            promised = 0 <= question < cluster.settings.limit and self.promise(question, change)
+            if question in self.promises and question not in ends:
                 ends[question] = asyncio.create_task(self.end(cluster, question))
             writer.write(b"YES\n" if promised else b"NO\n")
             writer.close()
@@ -78,15 +95,16 @@ class Party:
 
 
 async def asked(name: str, question: int, change: int) -> bool:
-    """Returns whether the party promises. One that doesn't answer in time doesn't."""
+    """Returns whether the party promises. One that doesn't answer in time, or tells a line without an end, doesn't."""
     try:
         async with asyncio.timeout(VOTE):
             reader, writer = await asyncio.open_unix_connection(f"{name}.socket")
-            writer.write(f"{question} {change}\n".encode())
-            answer = await reader.readline()
-            writer.close()
-            return answer == b"YES\n"
-    except OSError:
+            try:
+                writer.write(f"{question} {change}\n".encode())
+                return await reader.readline() == b"YES\n"
+            finally:
+                writer.close()
+    except (OSError, ValueError):  # TimeoutError is the first, a line that is too long the second
         return False
 
 

@@ -1,7 +1,8 @@
 #!/usr/bin/env bash
 # Shows a two-phase commit over four members: commit.py says how it works. Three accounts of 100; a transaction that commits, one
 # that can't, one whose coordinator dies, one whose coordinator dies after it proposed to one member, with an account that is killed
-# after its promise, and a member that is killed. It takes some seconds, and ports below 32768 that are free.
+# after its promise, and a member that is killed; a question that doesn't exist; an account that is killed while it writes, and one
+# whose disk is full. It takes some seconds, and ports below 32768 that are free.
 #
 #   examples/commit/run.sh [PROGRAM]     PROGRAM is bracha; left out, it is crates/bracha/out/bracha of this repository
 set -euo pipefail
@@ -26,6 +27,9 @@ dies() {
 members 64
 for name in alice bob carol; do party "$name"; done
 
+echo '* alice would pay 80 by a question that the cluster does not have. That leaves nothing behind:'
+if commit coordinate 64 alice=-80 bob=80 2>coordinate.err; then exit 1; fi
+tail -n 1 coordinate.err
 echo '* alice pays 30 to bob:'
 commit coordinate 0 alice=-30 bob=30
 echo '* carol would pay 500, and refuses:'
@@ -39,7 +43,23 @@ ends member-3
 dies commit coordinate 3 carol=-20 alice=10 bob=10 --die half
 ends carol
 commit coordinate 3 carol=-20 alice=10 bob=10
+echo '* carol is started again; the kill left half a line of her log:'
+printf '{"question": 5, "cha' >>carol.log
 party carol
+echo '* the disk of alice takes ten bytes more: she ends without a promise, and is started again'
+python3 - "${process[alice]}" "$(wc -c <alice.log)" <<'END'
+import resource, sys
+process, size = map(int, sys.argv[1:])
+resource.prlimit(process, resource.RLIMIT_FSIZE, (size + 10, resource.getrlimit(resource.RLIMIT_FSIZE)[1]))
+END
+commit coordinate 4 alice=-5 bob=5
+for _ in {1..100}; do
+    if ! kill -0 "${process[alice]}" 2>/dev/null; then break; fi
+    sleep 0.05
+done
+if kill -0 "${process[alice]}" 2>/dev/null; then echo 'alice goes on without her disk' >&2; exit 1; fi
+tail -n 1 alice.out
+party alice
 
 # Each account saves what became of its promises: within a moment, since it is told and doesn't ask.
 for _ in {1..100}; do
