@@ -286,9 +286,8 @@ impl Cluster {
         deadline: Instant,
         reply: impl FnOnce(Reply) + Send + 'static,
     ) {
-        let job = Job { line: line.to_string(), deadline, reply: Box::new(reply) };
         // It fails only if the member's thread is gone: then nothing comes, as from a silent one.
-        let _ = self.jobs[member].send(job);
+        let _ = self.jobs[member].send(Job::new(line, deadline, reply));
     }
 
     /// Returns each member's reply to a line, empty if none came in time.

@@ -244,8 +244,47 @@ fn a_connection_that_hangs_is_made_anew() {
     });
     let cluster = cluster(0, &[desk.address]);
     assert_eq!(cluster.ask_member(0, 5, SECOND), Err(Error::Unreachable(vec![0])));
-    assert_eq!(cluster.ask_member(0, 5, 4 * SECOND), Ok(Some(true)));
+    assert_eq!(cluster.ask_member(0, 5, 10 * SECOND), Ok(Some(true)));
     assert_eq!(desk.connections(), 2);
+}
+
+#[test]
+fn a_member_that_hangs_is_not_waited_for_until_the_deadline() {
+    let desk = Desk::new(|_, link| link.rest(60.0));
+    let cluster = cluster(0, &[desk.address]);
+    let begun = Instant::now();
+    assert_eq!(cluster.propose(5, true, 3600 * SECOND).unwrap()[0].stands, None);
+    assert!(begun.elapsed() < 9 * SECOND, "{:?}", begun.elapsed());
+}
+
+#[test]
+fn a_call_whose_deadline_passes_ends_no_other() {
+    // Four correct members that take a tenth of a second for a reply, as with a slow disk.
+    let desks = [0; 4].map(|_| Desk::new(|_, link| link.rest(0.1) && link.say("UNDECIDED\n")));
+    let cluster = cluster(1, &desks.each_ref().map(|desk| desk.address));
+    std::thread::scope(|scope| {
+        // The deadline of the second passes while the first, before it, is waited for.
+        for timeout in [60, 30] {
+            let cluster = &cluster;
+            scope.spawn(move || cluster.status(Duration::from_millis(timeout)));
+            std::thread::sleep(SECOND / 100);
+        }
+        assert_eq!(cluster.ask(5, 5 * SECOND), Ok(None));
+    });
+    assert!(desks.iter().all(|desk| desk.connections() == 1));
+}
+
+#[test]
+fn a_late_reply_is_not_given_to_another_call() {
+    let lines = AtomicUsize::new(0);
+    let desk = Desk::new(move |_, link| match lines.fetch_add(1, Ordering::SeqCst) {
+        0 => link.rest(0.5) && link.say("DECIDED 1\n"),
+        _ => link.say("UNDECIDED\n"),
+    });
+    let cluster = cluster(0, &[desk.address]);
+    assert_eq!(cluster.ask_member(0, 5, SECOND / 10), Err(Error::Unreachable(vec![0])));
+    assert_eq!(cluster.ask_member(0, 6, 5 * SECOND), Ok(None));
+    assert_eq!(desk.connections(), 1);
 }
 
 #[test]

@@ -31,7 +31,7 @@ fn one_that_is_no_chain(settings: Settings, addresses: &[SocketAddrV4]) {
     let cluster = Cluster::new(settings).unwrap();
     assert!(cluster.ask(3, SECOND / 5).is_err());
     assert!(cluster.decide(3, true, SECOND / 5).is_err());
-    // A follower keeps its connection to a silent member. A line that had no reply in time has none.
+    // A follower keeps its connection to a silent member. That of a line ends after five seconds.
     assert!(comes(|| own_threads() == 8 && links_to(addresses) >= 4));
     let mut dropped = cluster.follow().unwrap();
     assert_eq!(dropped.next_within(SECOND / 10), None);
