@@ -334,7 +334,8 @@ impl Cluster {
     ) -> Vec<bool> {
         let (sender, receiver) = channel();
         for member in 0..self.settings.n() {
-            self.say(member, &format!("ASK {question}"), deadline, into(member, &sender));
+            let patience = deadline.min(Instant::now() + PATIENCE);
+            self.say(member, &format!("ASK {question}"), patience, into(member, &sender));
         }
         drop(sender);
         let mut answered = vec![false; self.settings.n()];
