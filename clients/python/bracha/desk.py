@@ -3,8 +3,10 @@
 import asyncio
 from collections import deque
 from collections.abc import AsyncIterator
+from contextlib import asynccontextmanager, suppress
 
 from .course import Course
+from .errors import Closed
 from .replies import Decision, told_in
 from .settings import Settings, address_of
 
@@ -84,6 +86,8 @@ class Desk:
         self._wire: Wire | None = None
         self._opening: asyncio.Task[Wire | None] | None = None
         self._places = asyncio.Semaphore(UNDER_WAY)
+        self._links: set[asyncio.WriteTransport] = set()  # the connections of those that follow
+        self._limits: set[asyncio.Timeout] = set()  # of those that follow and have no connection now
         self._closed = False
 
     async def _open(self) -> Wire | None:
@@ -124,36 +128,57 @@ class Desk:
                 reply = await wire.say(line) if wire else None
             return reply
 
+    @asynccontextmanager
+    async def _limit(self, seconds: float) -> AsyncIterator[None]:
+        """Limits the time of what waits in it, which `close` ends too. TimeoutError, Closed."""
+        if self._closed:
+            raise Closed("the cluster is closed")
+        async with asyncio.timeout(seconds) as limit:
+            self._limits.add(limit)
+            try:
+                yield
+            finally:
+                self._limits.discard(limit)
+
     async def follow(self, number: int, settings: Settings) -> AsyncIterator[Decision]:
         """Yields the member's decisions from that number of its journal on, for ever, over any number of connections. A member
-        that breaks the protocol is left alone for a while."""
+        that breaks the protocol is left alone for a while. Closed."""
         course = Course(settings, number)
         while True:
             rest = REST
             try:
-                async with asyncio.timeout(CONNECT):
+                async with self._limit(CONNECT):
                     reader, writer = await asyncio.open_connection(*self._address, limit=LONGEST)
+                self._links.add(writer.transport)
                 try:
                     writer.write(f"FOLLOW {course.begin()}\n".encode())
                     lines = _Lines(reader)
                     while (told := await lines.next()) and (place := course.take(told[0])) is not None:
                         yield Decision(*told, place)
                 finally:
+                    self._links.discard(writer.transport)
                     writer.transport.abort()
                 rest = DISTRUST
             except (OSError, EOFError):  # TimeoutError is the first, the end of the stream the second
                 pass
             except asyncio.LimitOverrunError:
                 rest = DISTRUST
-            await asyncio.sleep(rest)
+            with suppress(TimeoutError):
+                async with self._limit(rest):
+                    await asyncio.sleep(rest)
 
     def close(self) -> None:
-        """Closes the connection at once, and lets nobody make another."""
+        """Closes the connections at once, and lets nobody make another."""
         self._closed = True
         if self._opening:
             self._opening.cancel()
         if self._wire:
             self._wire.end()
+        for link in self._links:
+            link.abort()
+        for limit in self._limits:
+            with suppress(RuntimeError):  # it ends already, or its loop does
+                limit.reschedule(0)
 
 
 class _Lines:

@@ -276,6 +276,32 @@ class Beside(unittest.TestCase):
         self.assertRaises(Closed, cluster.ask, 3)
         self.assertEqual((links_to(fakes), own_threads()), (0, before))
 
+    def test_close_ends_who_follows_one_member(self):
+        async def follows(desk):
+            cluster = AsyncCluster(Settings(7, 1, 0, 64, (desk,)))
+            waits = asyncio.create_task(anext(cluster.follow(trust=0, number=1)))
+            late, told = cluster.follow(trust=0), cluster.follow(trust=0)
+            if desk == fake.desk:
+                self.assertIs((await anext(told)).bit, True)
+            await asyncio.sleep(0.1)
+            links = len(fake.links)
+            cluster.close()
+            for one in (waits, anext(late)):
+                with self.assertRaises(Closed):
+                    async with asyncio.timeout(2):
+                        await one
+            await asyncio.sleep(0)  # in which the transports close their sockets
+            self.assertEqual((links_to([fake]), len(fake.links)), (0, links))
+
+        async def never(*_, **__):
+            await asyncio.sleep(60)
+
+        fake, = self.desks(lambda line: ["DECIDED 3 1\n", 60.0] if line == "FOLLOW 0" else [60.0])
+        asyncio.run(follows(fake.desk))
+        asyncio.run(follows(closed_port()))
+        with mock.patch("asyncio.open_connection", never), mock.patch("bracha.desk.CONNECT", 60):
+            asyncio.run(follows("127.0.0.1:1"))
+
     def test_a_dropped_iterator_leaves_nothing(self):
         fakes = self.desks(*[true] * 4)
         with Cluster(Settings(7, 4, 1, 64, tuple(fake.desk for fake in fakes))) as cluster:
