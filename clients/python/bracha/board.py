@@ -15,16 +15,7 @@ class Entry:
 
     def __init__(self, settings: Settings) -> None:
         self.reading = Reading(settings.n, settings.t)
-        self.refusals: dict[int, Refusal] = {}
         self.holders = 0
-
-    def refused_by(self, least: int) -> BrachaError | None:
-        """Returns the error of a slot that at least so many members refuse for one cause."""
-        for cause, error in ((Refusal.GONE, Gone), (Refusal.TOO_FAR, TooFar)):
-            members = sorted(member for member, refusal in self.refusals.items() if refusal is cause)
-            if len(members) >= least:
-                return error(members)
-        return None
 
 
 class Board:
@@ -80,13 +71,23 @@ class Board:
 
 
 class Held:
-    """A question that a call wants."""
+    """A question that a call wants, and the members that refuse it to that call: one that proposes nothing is refused no
+    proposal."""
 
     def __init__(self, board: Board, settings: Settings, question: int, entry: Entry) -> None:
         self._board = board
         self._settings = settings
         self._entry = entry
+        self._refusals: dict[int, Refusal] = {}
         self.question = question
+
+    def _refused_by(self, least: int) -> BrachaError | None:
+        """Returns the error of a slot that at least so many members refuse for one cause."""
+        for cause, error in ((Refusal.GONE, Gone), (Refusal.TOO_FAR, TooFar)):
+            members = sorted(member for member, refusal in self._refusals.items() if refusal is cause)
+            if len(members) >= least:
+                return error(members)
+        return None
 
     @property
     def decision(self) -> bool | None:
@@ -100,15 +101,15 @@ class Held:
     def refuse(self, member: int, refusal: Refusal | None) -> None:
         """Takes the cause for which a member refuses the slot, or None if it doesn't. The last one counts."""
         if refusal is None:
-            self._entry.refusals.pop(member, None)
+            self._refusals.pop(member, None)
         else:
-            self._entry.refusals[member] = refusal
+            self._refusals[member] = refusal
             self._board.waiters.wake(self.question)
 
     def outcome(self) -> bool | None:
         """Returns the decision that is believed, or None if it may still come. Gone, TooFar: at least n - t members refuse the
         slot, so t or fewer are left."""
-        if self.decision is None and (error := self._entry.refused_by(self._settings.n - self._settings.t)):
+        if self.decision is None and (error := self._refused_by(self._settings.n - self._settings.t)):
             raise error
         return self.decision
 
@@ -120,7 +121,7 @@ class Held:
 
     def refusal(self) -> BrachaError | None:
         """Returns the error of a slot that more than t members refuse."""
-        return self._entry.refused_by(self._settings.t + 1)
+        return self._refused_by(self._settings.t + 1)
 
     def failure(self, timeout: float | None) -> BrachaError:
         """Returns the error of a call whose time is over."""

@@ -405,6 +405,24 @@ class Beside(unittest.TestCase):
         self.assertIs(cluster.state(FAR)[0].stage, Stage.UNPROPOSED)
         self.assertRaises(Undecided, cluster.wait, FAR, timeout=0.5)
 
+    def test_a_proposal_that_is_too_early_ends_no_call_that_proposes_nothing(self):
+        decided = threading.Event()
+
+        def answer(line):
+            if line.startswith("ASK"):
+                return ["DECIDED 1\n"] if decided.is_set() else ["UNDECIDED\n"]
+            return [60.0] if line.startswith("FOLLOW") else ["ERR 2 question\n"]
+
+        fakes = self.desks(*[answer] * 4)
+        cluster = self.cluster(fakes)
+        with ThreadPoolExecutor() as pool:
+            waits = pool.submit(cluster.wait, 7000, timeout=20)
+            self.assertTrue(comes(lambda: "ASK 7000" in fakes[0].lines))
+            self.assertRaises(TooFar, cluster.decide, 7000, True, timeout=5)
+            self.assertIsNone(cluster.ask(7000))
+            decided.set()
+            self.assertIs(waits.result(), True)
+
     def test_refusals_are_of_chains_alone(self):
         fakes = self.desks(*[says("ERR 5 gone")] * 3, says("ERR 2 question"))
         with Cluster(Settings(7, 4, 1, 64, tuple(fake.desk for fake in fakes))) as cluster:

@@ -4,21 +4,23 @@ use crate::{Decision, Error, Reading, Settings};
 use std::collections::{BTreeMap, HashMap};
 use std::time::Instant;
 
+/// The members that refuse a slot to a call, with the cause of each.
+type Refusals = BTreeMap<usize, Refusal>;
+
 /// What members say of one question.
 struct Entry {
     reading: Reading,
-    /// The members that refuse the slot, with the cause of each.
-    refusals: BTreeMap<usize, Refusal>,
-    /// The number of calls that want it.
-    holders: usize,
+    /// The calls that want it, by their numbers, with what members refuse to each.
+    calls: BTreeMap<u64, Refusals>,
 }
 
 impl Entry {
-    /// Returns the error of a slot that at least so many members refuse for one cause.
-    fn refused_by(&self, least: usize) -> Option<Error> {
+    /// Returns the error of a slot that at least so many members refuse to a call for one cause.
+    fn refused_by(&self, least: usize, call: Call) -> Option<Error> {
+        let refusals = self.calls.get(&call.number)?;
         let by = |cause| -> Vec<usize> {
-            let refusals = self.refusals.iter().filter(|(_, refusal)| **refusal == cause);
-            refusals.map(|(member, _)| *member).collect()
+            let those = refusals.iter().filter(|(_, refusal)| **refusal == cause);
+            those.map(|(member, _)| *member).collect()
         };
         let (gone, far) = (by(Refusal::Gone), by(Refusal::TooFar));
         if gone.len() >= least {
@@ -34,6 +36,15 @@ impl Entry {
 struct State {
     entries: HashMap<u64, Entry>,
     decisions: Vec<Decision>,
+    /// The number of the next call.
+    next: u64,
+}
+
+/// A call that wants a question.
+#[derive(Debug, Clone, Copy)]
+pub(crate) struct Call {
+    pub(crate) question: u64,
+    number: u64,
 }
 
 /// What members say of questions, and the decisions that are believed, in the order in which they
@@ -47,13 +58,13 @@ pub(crate) struct Board {
 impl Board {
     /// Creates a board on which nothing was told.
     pub(crate) fn new(settings: &Settings) -> Board {
-        let state = State { entries: HashMap::new(), decisions: Vec::new() };
+        let state = State { entries: HashMap::new(), decisions: Vec::new(), next: 0 };
         Board { settings: settings.clone(), state: Guarded::new(state) }
     }
 
     fn fresh(&self) -> Entry {
         let reading = Reading::new(self.settings.n(), self.settings.t());
-        Entry { reading, refusals: BTreeMap::new(), holders: 0 }
+        Entry { reading, calls: BTreeMap::new() }
     }
 
     /// Returns what is known of a question, or `None` if nothing is to be.
@@ -68,8 +79,11 @@ impl Board {
     /// Holds a question for a call.
     pub(crate) fn hold(&self, question: u64) -> Held<'_> {
         let mut state = self.state.lock();
-        state.entries.entry(question).or_insert_with(|| self.fresh()).holders += 1;
-        Held { board: self, question }
+        let call = Call { question, number: state.next };
+        state.next += 1;
+        let entry = state.entries.entry(question).or_insert_with(|| self.fresh());
+        entry.calls.insert(call.number, Refusals::new());
+        Held { board: self, call }
     }
 
     /// Takes a member's word on a question.
@@ -86,26 +100,28 @@ impl Board {
         }
     }
 
-    /// Takes a member's reply to `ASK` of a question. Returns `false` if it is none.
-    pub(crate) fn hear(&self, member: usize, question: u64, reply: Option<&[u8]>) -> bool {
+    /// Takes a member's reply to `ASK` of a call's question. Returns `false` if it is none.
+    pub(crate) fn hear(&self, member: usize, call: Call, reply: Option<&[u8]>) -> bool {
         match reply.and_then(word_in) {
-            Some(Word::Decided(bit)) => self.take(member, question, bit),
-            Some(Word::Gone) => self.refuse(member, question, Some(Refusal::Gone)),
+            Some(Word::Decided(bit)) => self.take(member, call.question, bit),
+            Some(Word::Gone) => self.refuse(member, call, Some(Refusal::Gone)),
             Some(Word::Undecided) => {}
             None => return false,
         }
         true
     }
 
-    /// Takes the cause for which a member refuses the slot, if it does. The last one counts.
-    pub(crate) fn refuse(&self, member: usize, question: u64, refusal: Option<Refusal>) {
+    /// Takes the cause for which a member refuses the slot to a call, if it does. The last one counts.
+    /// It is nothing to other calls: one that proposes nothing is refused no proposal.
+    pub(crate) fn refuse(&self, member: usize, call: Call, refusal: Option<Refusal>) {
         let mut state = self.state.lock();
-        let Some(entry) = self.entry(&mut state, question) else { return };
+        let Some(entry) = state.entries.get_mut(&call.question) else { return };
+        let Some(refusals) = entry.calls.get_mut(&call.number) else { return };
         if let Some(refusal) = refusal {
-            entry.refusals.insert(member, refusal);
+            refusals.insert(member, refusal);
             self.state.notify();
         } else {
-            entry.refusals.remove(&member);
+            refusals.remove(&member);
         }
     }
 
@@ -118,13 +134,18 @@ impl Board {
 /// A question that a call wants: what members say of it is kept as long as this is there.
 pub(crate) struct Held<'a> {
     board: &'a Board,
-    question: u64,
+    call: Call,
 }
 
 impl Held<'_> {
+    /// Returns the call.
+    pub(crate) fn call(&self) -> Call {
+        self.call
+    }
+
     /// Returns the decision that is believed.
     pub(crate) fn decision(&self) -> Option<bool> {
-        self.board.state.lock().entries[&self.question].reading.decision()
+        self.board.state.lock().entries[&self.call.question].reading.decision()
     }
 
     /// Returns the decision once it is believed, or an error once it can't be any more because so
@@ -132,20 +153,21 @@ impl Held<'_> {
     pub(crate) fn wait(&self, deadline: Instant) -> Option<Result<bool, Error>> {
         let settings = &self.board.settings;
         self.board.state.until(Some(deadline), |state| {
-            let entry = &state.entries[&self.question];
-            let refused = || entry.refused_by(settings.n() - settings.t()).map(Err);
+            let entry = &state.entries[&self.call.question];
+            let refused = || entry.refused_by(settings.n() - settings.t(), self.call).map(Err);
             entry.reading.decision().map(Ok).or_else(refused)
         })
     }
 
     /// Returns the error for which more than t members refuse the slot.
     pub(crate) fn refusal(&self) -> Option<Error> {
-        self.board.state.lock().entries[&self.question].refused_by(self.board.settings.t() + 1)
+        let least = self.board.settings.t() + 1;
+        self.board.state.lock().entries[&self.call.question].refused_by(least, self.call)
     }
 
     /// Returns the error of a call whose time is over.
     pub(crate) fn failure(&self) -> Error {
-        let words = || self.board.state.lock().entries[&self.question].reading.words();
+        let words = || self.board.state.lock().entries[&self.call.question].reading.words();
         self.refusal().unwrap_or_else(|| Error::Undecided(words()))
     }
 }
@@ -153,10 +175,10 @@ impl Held<'_> {
 impl Drop for Held<'_> {
     fn drop(&mut self) {
         let mut state = self.board.state.lock();
-        let Some(entry) = state.entries.get_mut(&self.question) else { return };
-        entry.holders -= 1;
-        if self.board.settings.is_chain() && entry.holders == 0 {
-            state.entries.remove(&self.question);
+        let Some(entry) = state.entries.get_mut(&self.call.question) else { return };
+        entry.calls.remove(&self.call.number);
+        if self.board.settings.is_chain() && entry.calls.is_empty() {
+            state.entries.remove(&self.call.question);
         }
     }
 }
@@ -215,16 +237,16 @@ mod tests {
             let board = Board::new(&settings().in_chain());
             let held = board.hold(5);
             board.take(3, 5, true);
-            board.refuse(0, 5, Some(cause));
-            board.refuse(0, 5, Some(cause));
+            board.refuse(0, held.call(), Some(cause));
+            board.refuse(0, held.call(), Some(cause));
             assert_eq!(held.wait(soon()), None);
             assert_eq!(held.failure(), Error::Undecided(vec![(3, true)]));
-            board.refuse(1, 5, Some(cause));
+            board.refuse(1, held.call(), Some(cause));
             assert_eq!(held.wait(soon()), None); // two are left, and more than t
             assert_eq!(held.failure(), error(vec![0, 1]));
-            board.refuse(2, 5, Some(cause));
+            board.refuse(2, held.call(), Some(cause));
             assert_eq!(held.wait(soon()), Some(Err(error(vec![0, 1, 2]))));
-            board.refuse(1, 5, None);
+            board.refuse(1, held.call(), None);
             assert_eq!(held.wait(soon()), None);
             board.take(1, 5, true);
             assert_eq!(held.wait(soon()), Some(Ok(true)));
@@ -235,10 +257,24 @@ mod tests {
     fn two_causes_are_not_mixed() {
         let board = Board::new(&settings().in_chain());
         let held = board.hold(5);
-        board.refuse(0, 5, Some(Refusal::Gone));
-        board.refuse(1, 5, Some(Refusal::TooFar));
-        board.refuse(2, 5, Some(Refusal::TooFar));
+        board.refuse(0, held.call(), Some(Refusal::Gone));
+        board.refuse(1, held.call(), Some(Refusal::TooFar));
+        board.refuse(2, held.call(), Some(Refusal::TooFar));
         assert_eq!(held.wait(soon()), None);
         assert_eq!(held.failure(), Error::TooFar(vec![1, 2]));
+    }
+
+    #[test]
+    fn what_one_call_is_refused_ends_no_other() {
+        let board = Board::new(&settings().in_chain());
+        let (waits, decides) = (board.hold(5), board.hold(5));
+        (0..4).for_each(|member| board.refuse(member, decides.call(), Some(Refusal::TooFar)));
+        assert_eq!(decides.wait(soon()), Some(Err(Error::TooFar(vec![0, 1, 2, 3]))));
+        assert_eq!(waits.wait(soon()), None);
+        assert_eq!(waits.refusal(), None);
+        let late = decides.call();
+        drop(decides);
+        board.refuse(0, late, Some(Refusal::TooFar)); // nobody wants it any more
+        assert_eq!(board.hold(5).refusal(), None);
     }
 }

@@ -1,4 +1,4 @@
-use crate::board::{Board, Held};
+use crate::board::{Board, Call, Held};
 use crate::follow::{Follow, FollowMember, Source, Stream};
 use crate::follower::{Begin, Follower};
 use crate::line::{Job, Line, Reply};
@@ -115,7 +115,7 @@ impl Cluster {
         if let Some(bit) = held.decision() {
             return Ok(Some(bit));
         }
-        let answered = self.ask_all(&held, question, after(timeout), GRACE);
+        let answered = self.ask_all(&held, after(timeout), GRACE);
         if let Some(bit) = held.decision() {
             return Ok(Some(bit));
         }
@@ -173,14 +173,14 @@ impl Cluster {
     pub fn decide(&self, question: u64, bit: bool, timeout: Duration) -> Result<bool, Error> {
         self.check(question)?;
         let (held, deadline) = (self.board.hold(question), after(timeout));
-        if let Some(known) = self.known(&held, question, deadline) {
+        if let Some(known) = self.known(&held, deadline) {
             return known;
         }
         self.start(question)?;
         let (sender, receiver) = channel();
-        let propose = |member| self.propose_to(member, question, bit, deadline, &sender);
+        let propose = |member| self.propose_to(member, held.call(), bit, deadline, &sender);
         (0..self.settings.n()).for_each(propose);
-        self.settle(&held, question, deadline, || {
+        self.settle(&held, deadline, || {
             let again: Vec<usize> = receiver.try_iter().collect();
             again.into_iter().for_each(propose);
         })
@@ -198,11 +198,11 @@ impl Cluster {
     pub fn wait(&self, question: u64, timeout: Duration) -> Result<bool, Error> {
         self.check(question)?;
         let (held, deadline) = (self.board.hold(question), after(timeout));
-        if let Some(known) = self.known(&held, question, deadline) {
+        if let Some(known) = self.known(&held, deadline) {
             return known;
         }
         self.start(question)?;
-        self.settle(&held, question, deadline, || {})
+        self.settle(&held, deadline, || {})
     }
 
     /// Returns an iterator over decisions, for ever, over restarts of members: first those of
@@ -307,41 +307,31 @@ impl Cluster {
     /// Returns the decision of a question, if it is known, or the error of a slot that n - t members
     /// refuse. In a chain the members are asked for it: a proposal would make an epoch run again that
     /// has ended.
-    fn known(
-        &self,
-        held: &Held<'_>,
-        question: u64,
-        deadline: Instant,
-    ) -> Option<Result<bool, Error>> {
+    fn known(&self, held: &Held<'_>, deadline: Instant) -> Option<Result<bool, Error>> {
         if let Some(bit) = held.decision() {
             return Some(Ok(bit));
         }
         if !self.settings.is_chain() {
             return None;
         }
-        self.ask_all(held, question, deadline, Duration::ZERO);
+        self.ask_all(held, deadline, Duration::ZERO);
         held.wait(Instant::now())
     }
 
     /// Takes each member's word on a question, until a decision is believed, the deadline, or this
     /// grace after n - t members have answered. Returns which members answered.
-    fn ask_all(
-        &self,
-        held: &Held<'_>,
-        question: u64,
-        deadline: Instant,
-        grace: Duration,
-    ) -> Vec<bool> {
+    fn ask_all(&self, held: &Held<'_>, deadline: Instant, grace: Duration) -> Vec<bool> {
+        let line = format!("ASK {}", held.call().question);
         let (sender, receiver) = channel();
         for member in 0..self.settings.n() {
             let patience = deadline.min(Instant::now() + PATIENCE);
-            self.say(member, &format!("ASK {question}"), patience, into(member, &sender));
+            self.say(member, &line, patience, into(member, &sender));
         }
         drop(sender);
         let mut answered = vec![false; self.settings.n()];
         let mut end = deadline;
         while let Some((member, reply)) = next_reply(&receiver, end) {
-            answered[member] = self.board.hear(member, question, reply.as_deref());
+            answered[member] = self.board.hear(member, held.call(), reply.as_deref());
             if held.decision().is_some() {
                 break;
             }
@@ -358,16 +348,16 @@ impl Cluster {
     fn propose_to(
         &self,
         member: usize,
-        question: u64,
+        call: Call,
         bit: bool,
         deadline: Instant,
         again: &Sender<usize>,
     ) {
         let (board, again) = (self.board.clone(), again.clone());
         let patience = deadline.min(Instant::now() + PATIENCE);
-        self.say(member, &proposal(question, bit), patience, move |reply| {
+        self.say(member, &proposal(call.question, bit), patience, move |reply| {
             if let Some(reply) = &reply {
-                board.refuse(member, question, refusal_in(reply));
+                board.refuse(member, call, refusal_in(reply));
             }
             if reply.and_then(|reply| stands_in(&reply, bit)).is_none() {
                 give(&again, member);
@@ -378,13 +368,7 @@ impl Cluster {
     /// Waits for a decision, doing `again` every quarter of a second. In a chain the members are asked
     /// too, in the end every second: a follower may be held back by a slot that stays open, and one
     /// that is past the slot's epoch isn't told the decision.
-    fn settle(
-        &self,
-        held: &Held<'_>,
-        question: u64,
-        deadline: Instant,
-        again: impl Fn(),
-    ) -> Result<bool, Error> {
+    fn settle(&self, held: &Held<'_>, deadline: Instant, again: impl Fn()) -> Result<bool, Error> {
         let (sender, receiver) = channel();
         let asked = if self.settings.is_chain() { 0..self.settings.n() } else { 0..0 };
         asked.for_each(|member| give(&sender, member));
@@ -396,7 +380,8 @@ impl Cluster {
                 pause = POLL.min(2 * pause);
                 next = now + pause;
                 let due: Vec<usize> = receiver.try_iter().collect();
-                due.into_iter().for_each(|member| self.poll(member, question, deadline, &sender));
+                due.into_iter()
+                    .for_each(|member| self.poll(member, held.call(), deadline, &sender));
             }
             if let Some(ended) = held.wait(deadline.min(now + REST)) {
                 return ended;
@@ -409,11 +394,11 @@ impl Cluster {
     }
 
     /// Asks a member for a slot, and gives the member to `again` once it has answered.
-    fn poll(&self, member: usize, slot: u64, deadline: Instant, again: &Sender<usize>) {
+    fn poll(&self, member: usize, call: Call, deadline: Instant, again: &Sender<usize>) {
         let (board, again) = (self.board.clone(), again.clone());
         let patience = deadline.min(Instant::now() + PATIENCE);
-        self.say(member, &format!("ASK {slot}"), patience, move |reply| {
-            board.hear(member, slot, reply.as_deref());
+        self.say(member, &format!("ASK {}", call.question), patience, move |reply| {
+            board.hear(member, call, reply.as_deref());
             give(&again, member);
         });
     }

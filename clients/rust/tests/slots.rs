@@ -189,6 +189,29 @@ fn slots_that_are_too_far_ahead() {
 }
 
 #[test]
+fn a_proposal_that_is_too_early_ends_no_call_that_proposes_nothing() {
+    let decided = Arc::new(AtomicBool::new(false));
+    let desks = [0; 4].map(|_| {
+        let decided = decided.clone();
+        Desk::new(move |line, link| match (&line[..3], decided.load(Ordering::SeqCst)) {
+            ("FOL", _) => link.rest(60.0),
+            ("PRO", _) => link.say("ERR 2 question\n"),
+            (_, false) => link.say("UNDECIDED\n"),
+            (_, true) => link.say("DECIDED 1\n"),
+        })
+    });
+    let cluster = chain(1, &all(&desks));
+    std::thread::scope(|scope| {
+        let waits = scope.spawn(|| cluster.wait(7000, 20 * SECOND));
+        assert!(comes(|| desks[0].lines().iter().any(|line| line == "ASK 7000")));
+        assert!(matches!(cluster.decide(7000, true, 5 * SECOND), Err(Error::TooFar(_))));
+        assert_eq!(cluster.ask(7000, SECOND), Ok(None));
+        decided.store(true, Ordering::SeqCst);
+        assert_eq!(waits.join().unwrap(), Ok(true));
+    });
+}
+
+#[test]
 fn one_member_is_followed_over_epochs() {
     let desk = Desk::new(|line, link| {
         match line {
