@@ -31,6 +31,7 @@ from bracha import AsyncCluster, Settings, Stage, Undecided
 
 DIGITS = 20  # of the greatest slot that there may be
 PATIENCE = 2.5  # seconds for a slot, once values are there for it or a later one
+PAUSE = 0.1  # seconds before a slot is looked at again: it may wait for witnesses that are down
 WINDOW = 8  # slots that are settled at once; they are entered in order
 
 
@@ -133,6 +134,7 @@ class Witness:
                 return None
             if bit and locked and locked[0][1] > self.t:
                 return await self.fetch(locked[0][0])
+            await asyncio.sleep(PAUSE)
 
     async def judge(self, slot: int, voted: bool, stands: Counter[str]) -> tuple[bool | None, bool]:
         """Returns the bit of a slot, once it may be entered, and whether the slot is given up."""

@@ -34,6 +34,9 @@ until_slots() {
     exit 1
 }
 
+# spent M: prints how much processor time witness M has used, in ticks.
+spent() { awk '{ print $14 + $15 }' "/proc/${process[witness-$1]}/stat"; }
+
 # Answers all that come to the socket of witness 3 with its argument: "long", a line of 70,000 bytes and no end, or "digits", a number
 # of 4,301 digits, which Python doesn't read.
 liar='
@@ -123,6 +126,23 @@ until_slots 11 0 1 2
 ends liar
 witness 3
 until_slots 11 3
+echo '* two witnesses are killed, and a slot that is decided waits for them: the others use little of the processor'
+ends witness-2
+ends witness-3
+ledger put 11 'bob pays dave 4'
+python3 - "$(if [ "$epochs" ]; then echo 22; else echo 11; fi)" <<'END'
+import sys, bracha
+with bracha.Cluster.open("client.toml") as cluster:
+    cluster.decide(int(sys.argv[1]), False)
+END
+before=$(spent 0)
+sleep 3
+ticks=$(($(spent 0) - before)) all=$((3 * $(getconf CLK_TCK)))
+echo "  witness 0 used $ticks of $all ticks"
+[ "$ticks" -lt $((all / 3)) ] || { echo 'it spins' >&2; exit 1; }
+witness 2
+witness 3
+until_slots 12 0 1 2 3
 cat ledger-0
 for m in 1 2 3; do cmp ledger-0 "ledger-$m"; done
 for line in '0 genesis' '3 (empty)' '5 bob pays alice 2' '6 erin pays dave 3' '7 (empty)' '8 frank pays dave 1'; do
