@@ -2,11 +2,11 @@
 # Tests the client libraries as their users have them, against clusters of four members that run:
 # - the tests of clients/python, and of what pip installs of it;
 # - the tests of clients/rust, its documentation, and clippy;
-# - both examples that BUILDING describes, examples/commit/ and examples/ledger/.
+# - both examples that BUILDING describes, examples/commit/ and examples/ledger/, which runs over a chain too.
 #
 #   tests/clients.sh [PROGRAM]   by default crates/bracha/out/bracha, which `rt run` makes in crates/bracha
 #
-# It takes two minutes on two cores, no network but 127.0.0.1, ports below 32768 that are free, and no registry of packages. A tool that
+# It takes three minutes on two cores, no network but 127.0.0.1, ports below 32768 that are free, and no registry of packages. A tool that
 # is missing is named and its tests are left out, unless CI is set in the environment: then it fails. The last line is
 # `N passed, M failed`; the status is 1 where M isn't 0.
 set -euo pipefail
@@ -82,6 +82,7 @@ if has python3; then
     python_tests
     does 'examples/commit/run.sh' examples/commit/run.sh "$program"
     does 'examples/ledger/run.sh' examples/ledger/run.sh "$program"
+    does 'examples/ledger/run.sh --epochs' examples/ledger/run.sh --epochs "$program"
 fi
 if has cargo; then rust_tests; fi
 echo "$passed passed, $failed failed"

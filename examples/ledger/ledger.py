@@ -8,8 +8,8 @@ A question has one bit, and a value is bytes. So slot s is question s: "has a va
 go from witness to witness. A witness holds the first value of a slot that it gets, if it is one line of text. It locks a hash that
 more than (n + t) / 2 witnesses hold, or that more than t have locked: so no two correct witnesses lock different ones. It votes 1,
 at its own member, once 2t + 1 have locked: then all correct ones will. It votes 0 if that takes too long, and a slot that is decided
-0 stays empty: its value is to be put again. All that it holds and locks is on the disk before anybody hears of it. Here are
-client.toml and its folder.
+0 stays empty: its value is to be put again. All that it holds and locks is on the disk before anybody hears of it, and what came of
+a slot before that is entered. Here are client.toml and its folder.
 
 Chance may leave a question open for ever, and a slot with it. So the second half of the questions asks of each slot: "is it given
 up?". In a chain of epochs, whose questions don't end, slot s has the questions 2s and 2s + 1, and both are settled. A witness takes
@@ -113,7 +113,17 @@ class Witness:
         return 2 * count > self.n + self.t
 
     async def settle(self, slot: int) -> bytes | None:
-        """Returns the value that came into a slot, or None if it stays empty."""
+        """Returns the value that came into a slot, or None if it stays empty. What came of the slot is on the disk from then on: in a
+        chain the member may put its journal of it away."""
+        path = self.folder / f"{slot}.settled"
+        if not path.exists():
+            value = await self.agree(slot)
+            save(path, b"" if value is None else hashlib.sha256(value).hexdigest().encode())
+        digest = path.read_text()
+        return await self.fetch(digest) if digest else None
+
+    async def agree(self, slot: int) -> bytes | None:
+        """Returns what `settle` does, once the witnesses and their members agree on it."""
         loop = asyncio.get_running_loop()
         begun, voted = None, False
         while True:
@@ -144,10 +154,12 @@ class Witness:
         elif voted and (await self.member.state(self.entered(slot)))[0].stage is Stage.SPENT:
             save(self.folder / f"{slot}.stand", b"leaves")
         question = self.given_up(slot)
-        if self.is_quorum(stands["keeps"]) or not stands["leaves"]:
-            if self.chain and bit is not None and self.is_quorum(stands["keeps"]):
-                await self.member.propose(question, False)
-            return (bit if self.is_quorum(stands["keeps"]) else None), False
+        if self.is_quorum(stands["keeps"]):
+            if self.chain and bit is not None and (await self.member.propose(question, False))[0].stands is None:
+                bit = None  # once the slot is settled, nobody would propose this again
+            return bit, False
+        if not stands["leaves"]:
+            return None, False
         if self.is_quorum(stands["leaves"]) or bit is not None:
             await self.member.propose(question, self.is_quorum(stands["leaves"]))
         given_up = await self.decision(question)

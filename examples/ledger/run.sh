@@ -143,6 +143,15 @@ echo "  witness 0 used $ticks of $all ticks"
 witness 2
 witness 3
 until_slots 12 0 1 2 3
+if [ "$epochs" ]; then
+    echo '* the journal of an epoch is put away at member 0, and its witness is started again'
+    ends witness-0
+    ends member-0
+    rm member-0.epochs/0.journal
+    member 0
+    witness 0
+    until_slots 12 0
+fi
 cat ledger-0
 for m in 1 2 3; do cmp ledger-0 "ledger-$m"; done
 for line in '0 genesis' '3 (empty)' '5 bob pays alice 2' '6 erin pays dave 3' '7 (empty)' '8 frank pays dave 1'; do
