@@ -720,10 +720,12 @@ def a_chain_goes_on(folder, port):
 
 
 class MadeUpDesks:
-    """Desks of a chain of which each tells the slots that it is told to, in order, and says that so many epochs are closed."""
+    """Desks of a chain of which each tells the slots that it is told to, in order, and says that so many epochs are closed. Those
+    of `late` it tells to one who asks alone."""
 
     def __init__(self, folder, port, questions, closed):
         self.questions, self.closed, self.told = questions, closed, [[] for _ in closed]
+        self.late, self.asked = {}, set()
         self.listeners = [socket.create_server(("127.0.0.1", port + me), backlog=64) for me in range(len(closed))]
         self.folder, self.port = folder, port
         write_client(folder, questions, [f"127.0.0.1:{port + me}" for me in range(len(closed))], True)
@@ -740,9 +742,14 @@ class MadeUpDesks:
         with contextlib.suppress(OSError, ValueError), link, link.makefile("rb") as lines:
             for line in lines:
                 words = line.decode().split()
+                self.asked.add(words[0])
                 if words[0] == "FOLLOW":
                     return self.tell(me, link, int(words[1]))
-                reply = {"EPOCHS": f"EPOCHS {self.closed[me]} {self.closed[me]}", "STATUS": "UP 5 1", "LINKS": "LINKS 4 4 - -", "PROPOSE": "OK"}
+                if words[0] == "ASK" and int(words[1]) in self.late:
+                    link.sendall(b"DECIDED %d\n" % self.late[int(words[1])])
+                    continue
+                reply = {"EPOCHS": f"EPOCHS {self.closed[me]} {self.closed[me]}", "STATUS": "UP 5 1", "LINKS": "LINKS 4 4 - -", "PROPOSE": "OK",
+                         "ASK": "UNDECIDED"}
                 link.sendall(reply.get(words[0], "UNPROPOSED").encode() + b"\n")
 
     def tell(self, me, link, number):
@@ -810,6 +817,9 @@ def windows(desks, gateway):
     found += differs("a slot after it", gateway.json(f"/v1/questions/{last}", 404), {"error": "question"})
     found += differs("a part before it", [gateway.json("/v1/questions?from=0&to=5")[it] for it in ("from", "to", "states")], [first, first, ""])
     found += differs("a new slot", gateway.propose(30_001, 1)[0], 202)
+    desks.late[30_001] = 1
+    found += differs("one that is told to who asks alone", soon(lambda: gateway.json("/v1/questions/30001")["state"] == "decided", 12), True)
+    found += differs("what starts an epoch again", "STATE" in desks.asked, False)
     desks.told[2] = list(range(29_000, 30_000))
     found += differs("one that comes later", soon(lambda: gateway.json(f"/v1/questions/{slot}")["members"][2]["says"] == 0), True)
     memory = gateway.memory()

@@ -79,16 +79,31 @@ fn ask_open<R: Runner>(
         let Some(question) = open else {
             return Ok(0);
         };
-        let line = format!(in shared.alloc; "STATE {question}\n")?;
-        let reply = exchange(rt, shared, lines, line.as_str())?;
+        let reply = reply_on(rt, shared, lines, question)?;
         hear_state(rt, shared, member, question, reply);
         next = question.saturating_add(1);
     }
     Ok(next)
 }
 
-/// Takes what a member replied to `STATE`. A decision that it tells is its word: one that came late
-/// in an epoch may be told to no follower.
+/// Returns what the member replies to one who asks for a question that is under way. A member of a
+/// chain is asked for its decision alone: `STATE` would start the slot's epoch again.
+fn reply_on<R: Runner>(
+    rt: &R,
+    shared: &Shared,
+    lines: &mut DeskLines,
+    question: u64,
+) -> io::Result<Reply> {
+    if shared.scope.chain {
+        let line = format!(in shared.alloc; "ASK {question}\n")?;
+        return exchange(rt, shared, lines, line.as_str());
+    }
+    let line = format!(in shared.alloc; "STATE {question}\n")?;
+    exchange(rt, shared, lines, line.as_str())
+}
+
+/// Takes what a member replied to `STATE` or `ASK`. A decision that it tells is its word: one that
+/// came late in an epoch may be told to no follower.
 fn hear_state<R: Runner>(rt: &R, shared: &Shared, member: u8, question: u64, reply: Reply) {
     match reply {
         Reply::Spent => shared.book.lock(rt).set_spent(question, member),
