@@ -294,6 +294,7 @@ def questions_are_told_by_more_than_t(folder, port):
         found += differs("a made-up decision", gateway.json("/v1/questions/300"),
                          {"question": 300, "state": "proposed", "members": [{"member": it, "says": 1 if it == 3 else None} for it in range(4)]})
         found += differs("proposed twice", gateway.propose(20, 1), (200, {"question": 20, "state": "decided", "bit": 0, "taken": 0, "have": 4}))
+        found += differs("who is asked then", "PROPOSE 20 1" in cluster.liar.lines, False)
         states = gateway.json("/v1/questions?from=0&to=512")
         letters = "".join("1" if it == 7 else "01"[it % 2] if 20 <= it < 40 else "p" if it == 300 else "-" for it in range(512))
         found += differs("the letters", (states["questions"], states["from"], states["to"], states["states"]), (512, 0, 512, letters))

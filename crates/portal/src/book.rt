@@ -192,6 +192,17 @@ impl Book {
         }
     }
 
+    /// Returns how many members told a bit of a question.
+    pub(crate) fn teller_count(&self, question: u64) -> u8 {
+        let mut count: u8 = 0;
+        for member in 0..self.scope.size.n() {
+            if self.word_of(question, member).is_some() {
+                count = count.saturating_add(1);
+            }
+        }
+        count
+    }
+
     /// Returns the bit that a member told of a question.
     pub(crate) fn word_of(&self, question: u64, member: u8) -> Option<bool> {
         self.hearing.watch().word_of(question, member)

@@ -30,6 +30,16 @@ const REPLIES: u64 = 3000;
 /// seconds.
 const MOST_FETCHES: u64 = 1;
 
+/// The outcome of a proposal.
+#[derive(Clone, Copy, Debug, PartialEq, Eq)]
+struct Outcome {
+    standing: Standing,
+    /// The number of members that took it.
+    taken: u8,
+    /// The number of members that had one, or decided.
+    have: u8,
+}
+
 /// A cluster as the thread of a connection reaches it.
 #[derive(Drop)]
 pub(crate) struct Reach<'a, R: 'static> {
@@ -126,6 +136,17 @@ impl<'a, R: Speaker> Reach<'a, R> {
         }
     }
 
+    /// Returns the outcome of a proposal of a question whose decision is known: nobody is asked.
+    fn known(&self, question: u64) -> Option<Outcome> {
+        let book = self.shared.book.lock(self.rt);
+        let bit = book.decision(question)?;
+        Some(Outcome {
+            standing: Standing::Decided(bit),
+            taken: 0,
+            have: book.teller_count(question),
+        })
+    }
+
     /// Returns the answer to a proposal of this number once members replied to it.
     fn replied(&self, number: u64, proposal: Proposal) -> Result<Answer, AllocError> {
         self.await_replies(number);
@@ -139,13 +160,12 @@ impl<'a, R: Speaker> Reach<'a, R> {
         if motion.taken == 0 && motion.have == 0 {
             return self.refuse(Refusal::Silent);
         }
-        let (question, taken, have) = (proposal.question, motion.taken, motion.have);
-        let text = proposal_text(self.shared.alloc, question, standing, taken, have)?;
-        let status = match standing {
-            Standing::Decided(_) => 200,
-            _ => 202,
+        let outcome = Outcome {
+            standing,
+            taken: motion.taken,
+            have: motion.have,
         };
-        answer_of(self.shared.alloc, status, Kind::Json, text.as_bytes())
+        self.proposed(proposal.question, outcome)
     }
 
     /// Waits until each member that answers has replied to a proposal.
@@ -171,6 +191,21 @@ impl<'a, R: Speaker> Reach<'a, R> {
             .wait_timeout_while(self.rt, book, limit, |book| {
                 book.awaits(question) && !self.shared.is_over()
             });
+    }
+
+    /// Returns the answer to a proposal of a question with this outcome.
+    fn proposed(&self, question: u64, outcome: Outcome) -> Result<Answer, AllocError> {
+        let Outcome {
+            standing,
+            taken,
+            have,
+        } = outcome;
+        let text = proposal_text(self.shared.alloc, question, standing, taken, have)?;
+        let status = match standing {
+            Standing::Decided(_) => 200,
+            _ => 202,
+        };
+        answer_of(self.shared.alloc, status, Kind::Json, text.as_bytes())
     }
 }
 
@@ -198,6 +233,9 @@ impl<'a, R: Speaker> Cluster for Reach<'a, R> {
     }
 
     fn propose(&mut self, proposal: Proposal) -> Result<Answer, AllocError> {
+        if let Some(known) = self.known(proposal.question) {
+            return self.proposed(proposal.question, known);
+        }
         let time = time_now(self.rt);
         let begun = self
             .shared
