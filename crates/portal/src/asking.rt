@@ -64,8 +64,9 @@ fn ask<R: Runner>(rt: &R, shared: &Shared, lines: &mut DeskLines, member: u8) ->
     Ok(())
 }
 
-/// Asks the member how it stands with some of the questions that are under way, from this one on.
-/// Returns the question after the last of them; 0 after the last of all.
+/// Asks the member how it stands with some of the questions that are under way, from this one on,
+/// and no further once a proposal waits. Returns the question after the last of them; 0 after the
+/// last of all.
 fn ask_open<R: Runner>(
     rt: &R,
     shared: &Shared,
@@ -82,6 +83,9 @@ fn ask_open<R: Runner>(
         let reply = reply_on(rt, shared, lines, question)?;
         hear_state(rt, shared, member, question, reply);
         next = question.saturating_add(1);
+        if shared.book.lock(rt).motion_for(member).is_some() {
+            return Ok(next);
+        }
     }
     Ok(next)
 }
