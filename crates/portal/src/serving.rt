@@ -341,13 +341,13 @@ fn move_some<R: Clock + 'static>(
     }
 }
 
-/// Writes some of what is pending.
+/// Writes some of what is pending. An error isn't told to the client: it would stand amid an answer.
 fn write_some<R: Clock + 'static>(
     connection: &mut Connection,
     timed: &mut Timed<'_, R>,
 ) -> io::Result<()> {
     timed.turn(true)?;
-    let written = connection.write_to(timed)?;
+    let written = connection.write_to(timed).unwrap_or(0);
     if written == 0 {
         return Err(io::Error::from(io::ErrorKind::WriteZero));
     }
