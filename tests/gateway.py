@@ -569,6 +569,12 @@ def hostile_clients_harm_nobody(folder, port):
         many = b"".join(b"GET /v1/questions/%d HTTP/1.1\r\n" % it + head + b"\r\n" for it in range(100))
         answers = raw(gateway, many[:-2] + b"Connection: close\r\n\r\n")
         found += differs("a pipeline of a hundred", (answers or b"").count(b"HTTP/1.1 200"), 100)
+        with socket.create_connection(("127.0.0.1", gateway.port), timeout=10) as link:
+            link.sendall(b"".join(b"GET %s HTTP/1.1\r\n" % it + head + b"\r\n" for it in (b"/health", b"/v1/decisions")))
+            got = b""
+            while b"\nretry: " not in got and (piece := link.recv(4096)):
+                got += piece
+        found += differs("an answer in front of a stream", (got.count(b"HTTP/1.1 200"), b'{"ok":true}' in got), (2, True))
         before = gateway.memory()
 
         def garbage(number):

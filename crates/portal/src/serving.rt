@@ -300,10 +300,12 @@ fn converse<R: Runner>(
     Ok(door.follow)
 }
 
-/// Returns the limits of a connection.
+/// Returns the limits of a connection. A request is looked at once each answer before it was taken:
+/// none is lost if it asks for the stream of events.
 fn config() -> Config {
     let mut config = Config::default();
     config.max_body_len = LONGEST_BODY;
+    config.max_pending = 0;
     config.read_size = 2048;
     config
 }
