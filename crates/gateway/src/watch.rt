@@ -202,9 +202,26 @@ impl Watch {
         self.pass(alloc, first)
     }
 
-    /// Forgets the questions before this one, and begins the window there.
+    /// Forgets the questions before this one, and begins the window there, if it isn't there.
     #[tactic(auto, unfolding(crate::specs::Watches::Watches, crate::specs::Watches::watch_first, crate::specs::Watches::watch_heads, crate::specs::Watches::watch_scope))]
     fn pass(&mut self, alloc: Global, first: u64) -> Result<(), AllocError>
+        requires { watch_first self.old ≤ first }
+        ensures words { (watch_scope self.old).chain ≡ true → (heard : List Told) →
+            Watches self.old heard → Watches self.new heard }
+        ensures scope { watch_scope self.new ≡ watch_scope self.old }
+        ensures heads { watch_heads self.new ≡ watch_heads self.old }
+        ensures moves { OnOk result (watch_first self.new ≡ first) }
+        ensures stays { OnErr result (self.new ≡ self.old) }
+    {
+        if first == self.first {
+            return Ok(());
+        }
+        self.forget(alloc, first)
+    }
+
+    /// Forgets the questions before this one, and begins the window there.
+    #[tactic(auto, unfolding(crate::specs::Watches::Watches, crate::specs::Watches::watch_first, crate::specs::Watches::watch_heads, crate::specs::Watches::watch_scope))]
+    fn forget(&mut self, alloc: Global, first: u64) -> Result<(), AllocError>
         requires { watch_first self.old ≤ first }
         ensures words { (watch_scope self.old).chain ≡ true → (heard : List Told) →
             Watches self.old heard → Watches self.new heard }

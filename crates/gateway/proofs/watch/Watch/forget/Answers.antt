@@ -2,7 +2,7 @@ use Rattle.std.proofs.Common.{◌≡◌, ◌-◌, ◌∙◌, List, drop, false, 
 use Rattle.client.specs.declared.reading.Reading.{Reading}
 use Rattle.gateway.specs.Watches.{IsKept, Watches, watch_first, watch_scope}
 use Rattle.gateway.proofs.Keeping.{kept_passed}
-use Rattle.gateway.proofs.watch.Watch.pass.Goals as goal
+use Rattle.gateway.proofs.watch.Watch.forget.Goals as goal
 
 pub returns-clause-words : goal.returns-clause-words
 unfolding Watches watch_first watch_scope
