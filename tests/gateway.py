@@ -468,6 +468,7 @@ def kills_are_seen(folder, port):
         found += differs("nobody is there", soon(lambda: {it["state"] for it in gateway.json("/v1/members")["members"]} == {"silent"}, 12), True)
         begun = time.monotonic()
         found += differs("a proposal to nobody", gateway.propose(14, 1), (503, {"error": "silent"}))
+        found += differs("what it leaves", gateway.json("/v1/questions/14")["state"], "unproposed")
         found += differs("a transcript of nobody", transcript(gateway, 9)[0], 503)
         found += differs("both in time", time.monotonic() - begun < 20, True)
         for me in range(4):
@@ -710,6 +711,8 @@ def a_chain_goes_on(folder, port):
             for slot in (8192, 2**63, 2**64 - 1):
                 found += differs(f"slot {slot}", gateway.json(f"/v1/questions/{slot}", 404), {"error": "question"})
                 found += differs(f"a proposal on {slot}", gateway.propose(slot, 1), (404, {"error": "question"}))
+            found += differs("a slot that members refuse", gateway.propose(8000, 1), (404, {"error": "question"}))
+            found += differs("what that leaves", gateway.json("/v1/questions/8000")["state"], "unproposed")
             found += differs("slot 2^64", gateway.ask("GET", f"/v1/questions/{2**64}")[0], 404)
             status, _, body = gateway.ask("GET", "/v1/questions/20/transcript")
             found += differs("a transcript", (status, json.loads(body).get("bit")), (200, 0))

@@ -26,12 +26,23 @@ pub(crate) struct Motion {
     pub(crate) number: u64,
     pub(crate) question: u64,
     pub(crate) bit: bool,
+    /// The milliseconds since 1970 at which it was made.
+    pub(crate) time: u64,
     /// The members that replied, a bit each.
     pub(crate) replied: u64,
     /// The number of members that took it.
     pub(crate) taken: u8,
     /// The number of members that had one, or decided.
     pub(crate) have: u8,
+    /// The number of members that refused it.
+    pub(crate) refused: u8,
+}
+
+impl Motion {
+    /// Returns `true` if a member took it, had one, or decided.
+    pub(crate) fn is_heard(&self) -> bool {
+        self.taken > 0 || self.have > 0
+    }
 }
 
 /// A cluster as the gateway knows it.
@@ -94,11 +105,6 @@ impl Book {
             return None;
         }
         Some(first_of(&events[skipped..]))
-    }
-
-    /// Returns `true` if the question is one of the window and isn't decided.
-    pub(crate) fn awaits(&self, question: u64) -> bool {
-        self.watch().refusal(question).is_none() && self.decision(question).is_none()
     }
 
     /// Counts a request that was refused.
@@ -331,11 +337,6 @@ impl Book {
         standing_of(self.decision(question), self.stage(question))
     }
 
-    /// Returns the decision of a question: the bit that more than t members told.
-    pub(crate) fn decision(&self, question: u64) -> Option<bool> {
-        self.hearing.watch().decision(question)
-    }
-
     /// Returns the stage of a question.
     pub(crate) fn stage(&self, question: u64) -> Stage {
         self.notes.at(question).stage
@@ -388,17 +389,52 @@ impl Book {
             number,
             question,
             bit,
+            time,
             replied: 0,
             taken: 0,
             have: 0,
+            refused: 0,
         };
         if self.motions.push(motion).is_err() {
             return Err(Refusal::Busy);
         }
         self.motion_count = number.saturating_add(1);
         self.set_begun(question, time);
-        self.begin(question);
         Ok(number)
+    }
+
+    /// Returns a proposal that the member hasn't replied to, if there is one.
+    pub(crate) fn motion_for(&self, member: u8) -> Option<Motion> {
+        self.motions
+            .iter()
+            .find(|motion| motion.replied >> (member & 63) & 1 == 0)
+            .copied()
+    }
+
+    /// Notes what a member replied to a proposal.
+    pub(crate) fn reply(&mut self, number: u64, member: u8, reply: Reply) {
+        for motion in self.motions.iter_mut() {
+            if motion.number == number {
+                motion.replied |= 1 << (member & 63);
+                match reply {
+                    Reply::Taken => motion.taken = motion.taken.saturating_add(1),
+                    Reply::Have | Reply::Told(_) => motion.have = motion.have.saturating_add(1),
+                    Reply::Stopped => {}
+                    _ => motion.refused = motion.refused.saturating_add(1),
+                }
+            }
+        }
+        if let Some(motion) = self.motion(number) {
+            self.start(motion);
+        }
+    }
+
+    /// Notes that the question of a proposal is under way, once a member took it or had one.
+    fn start(&mut self, motion: Motion) {
+        if motion.is_heard() && self.awaits(motion.question) {
+            self.set_begun(motion.question, motion.time);
+            self.begin(motion.question);
+        }
     }
 
     /// Notes the time at which a question was proposed here, if it wasn't before.
@@ -432,33 +468,32 @@ impl Book {
         }
     }
 
+    /// Forgets the time of a proposal that no member took, if the question isn't under way.
+    pub(crate) fn withdraw(&mut self, question: u64) {
+        let note = self.notes.at(question);
+        if note.stage == Stage::Unproposed && self.awaits(question) {
+            self.notes.put(Note {
+                begun: None,
+                ..note
+            });
+        }
+    }
+
+    /// Returns `true` if the question is one of the window and isn't decided.
+    pub(crate) fn awaits(&self, question: u64) -> bool {
+        self.watch().refusal(question).is_none() && self.decision(question).is_none()
+    }
+
+    /// Returns the decision of a question: the bit that more than t members told.
+    pub(crate) fn decision(&self, question: u64) -> Option<bool> {
+        self.hearing.watch().decision(question)
+    }
+
     /// Returns the watch.
     pub(crate) fn watch(&self) -> &Watch
         ensures { (heard : List Told) × Watches result.now heard }
     {
         self.hearing.watch()
-    }
-
-    /// Returns a proposal that the member hasn't replied to, if there is one.
-    pub(crate) fn motion_for(&self, member: u8) -> Option<Motion> {
-        self.motions
-            .iter()
-            .find(|motion| motion.replied >> (member & 63) & 1 == 0)
-            .copied()
-    }
-
-    /// Notes what a member replied to a proposal.
-    pub(crate) fn reply(&mut self, number: u64, member: u8, reply: Reply) {
-        for motion in self.motions.iter_mut() {
-            if motion.number == number {
-                motion.replied |= 1 << (member & 63);
-                match reply {
-                    Reply::Taken => motion.taken = motion.taken.saturating_add(1),
-                    Reply::Have | Reply::Told(_) => motion.have = motion.have.saturating_add(1),
-                    _ => {}
-                }
-            }
-        }
     }
 
     /// Returns `true` while a member that answers hasn't replied to the proposal.

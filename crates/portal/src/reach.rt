@@ -4,6 +4,7 @@
 ghost use Rattle.std.specs.Prelude.{◌≡◌, IfOk};
 ghost use Rattle.portal.specs.Served.{IsToldAt};
 
+use crate::book::Motion;
 use crate::cluster::{Answer, Cluster, Kind, Proposal, answer_of, good_answer};
 use crate::fetching::{Fetched, Sent, fetch};
 use crate::handed::{Handed, HandedOn};
@@ -156,9 +157,12 @@ impl<'a, R: Speaker> Reach<'a, R> {
         let Some(motion) = book.end_motion(number) else {
             return Err(AllocError);
         };
+        if !motion.is_heard() {
+            book.withdraw(proposal.question);
+        }
         drop(book);
-        if motion.taken == 0 && motion.have == 0 {
-            return self.refuse(Refusal::Silent);
+        if !motion.is_heard() {
+            return self.refuse(unheard(motion));
         }
         let outcome = Outcome {
             standing,
@@ -260,5 +264,14 @@ impl<'a, R: Speaker> Cluster for Reach<'a, R> {
             Kind::Json,
             text.as_bytes(),
         )
+    }
+}
+
+/// Returns the refusal of a proposal that no member took: some refused it, or none answered.
+fn unheard(motion: Motion) -> Refusal {
+    if motion.refused > 0 {
+        Refusal::Question
+    } else {
+        Refusal::Silent
     }
 }
