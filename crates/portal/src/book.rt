@@ -13,7 +13,8 @@ use gateway::{
 };
 use std::alloc::{AllocError, Global};
 
-/// The most events that are kept. Who follows from an earlier one loads everything anew.
+/// The most events that are kept; beyond them the older half is dropped. Who follows from an
+/// earlier one loads everything anew.
 const MOST_EVENTS: usize = 16_384;
 
 /// The most proposals that are under way.
@@ -462,10 +463,31 @@ impl Book {
 
     /// Notes an event. If memory for it is refused, followers load everything anew.
     fn note(&mut self, event: Event) {
-        if self.events.len() >= MOST_EVENTS || self.events.push(event).is_err() {
-            self.before = self.last().saturating_add(1);
-            self.events = Vec::new(self.alloc);
+        if self.events.len() >= MOST_EVENTS {
+            self.drop_older();
         }
+        if self.events.push(event).is_err() {
+            self.drop_events();
+            self.before = self.before.saturating_add(1);
+        }
+    }
+
+    /// Drops the older half of the events; all of them if memory for the others is refused.
+    fn drop_older(&mut self) {
+        let half = self.events.len() / 2;
+        match self.events.split_off(half) {
+            Ok(later) => {
+                self.before = self.before.saturating_add(half as u64);
+                self.events = later;
+            }
+            Err(_) => self.drop_events(),
+        }
+    }
+
+    /// Drops all events.
+    fn drop_events(&mut self) {
+        self.before = self.last();
+        self.events = Vec::new(self.alloc);
     }
 
     /// Forgets the time of a proposal that no member took, if the question isn't under way.

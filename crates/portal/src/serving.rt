@@ -227,6 +227,7 @@ fn accept_on<R: Runner>(rt: R, shared: Arc<Shared>, listener: TcpListener) {
 fn admit<R: Runner>(rt: &R, shared: &Arc<Shared>, socket: TcpStream) {
     if shared.clients.fetch_add(1, Ordering::SeqCst) >= MOST_CLIENTS {
         shared.clients.fetch_sub(1, Ordering::SeqCst);
+        shared.book.lock(rt).count_refusal();
         let _untold = turn_away(rt, &socket).is_err();
         return;
     }
@@ -343,7 +344,7 @@ fn move_some<R: Clock + 'static>(
     }
 }
 
-/// Writes some of what is pending. An error isn't told to the client: it would stand amid an answer.
+/// Writes some of what is pending. No error is told to the client: it would stand amid an answer.
 fn write_some<R: Clock + 'static>(
     connection: &mut Connection,
     timed: &mut Timed<'_, R>,

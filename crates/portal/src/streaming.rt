@@ -44,6 +44,7 @@ pub(crate) fn serve_follower<R: Runner>(
 ) -> io::Result<()> {
     if shared.streams.fetch_add(1, Ordering::SeqCst) >= MOST_STREAMS {
         shared.streams.fetch_sub(1, Ordering::SeqCst);
+        shared.book.lock(rt).count_refusal();
         return write_all(rt, socket, BUSY, Deadline::new(rt, TO_TAKE)?);
     }
     let ended = stream_on(rt, shared, socket, from);
