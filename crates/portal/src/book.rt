@@ -40,6 +40,11 @@ pub(crate) struct Motion {
 }
 
 impl Motion {
+    /// Returns `true` if all members that replied refused it.
+    pub(crate) fn is_refused(&self) -> bool {
+        self.refused > 0 && !self.is_heard()
+    }
+
     /// Returns `true` if a member took it, had one, or decided.
     pub(crate) fn is_heard(&self) -> bool {
         self.taken > 0 || self.have > 0

@@ -151,7 +151,9 @@ impl<'a, R: Speaker> Reach<'a, R> {
     /// Returns the answer to a proposal of this number once members replied to it.
     fn replied(&self, number: u64, proposal: Proposal) -> Result<Answer, AllocError> {
         self.await_replies(number);
-        self.await_decision(proposal.question, proposal.wait);
+        if !self.is_refused(number) {
+            self.await_decision(proposal.question, proposal.wait);
+        }
         let mut book = self.shared.book.lock(self.rt);
         let standing = book.standing(proposal.question);
         let Some(motion) = book.end_motion(number) else {
@@ -170,6 +172,14 @@ impl<'a, R: Speaker> Reach<'a, R> {
             have: motion.have,
         };
         self.proposed(proposal.question, outcome)
+    }
+
+    /// Returns `true` if all members that replied to a proposal refused it.
+    fn is_refused(&self, number: u64) -> bool {
+        match self.shared.book.lock(self.rt).motion(number) {
+            Some(motion) => motion.is_refused(),
+            None => false,
+        }
     }
 
     /// Waits until each member that answers has replied to a proposal.
@@ -269,7 +279,7 @@ impl<'a, R: Speaker> Cluster for Reach<'a, R> {
 
 /// Returns the refusal of a proposal that no member took: some refused it, or none answered.
 fn unheard(motion: Motion) -> Refusal {
-    if motion.refused > 0 {
+    if motion.is_refused() {
         Refusal::Question
     } else {
         Refusal::Silent
