@@ -424,6 +424,8 @@ def what_is_refused_is_named(folder, port):
         for status, word, method, target, body, heads in rows:
             is_so = gateway.ask(method, target, body, **heads)
             found += differs(f"{method} {target} {body} {heads}", (is_so[0], is_so[2]), (status, f'{{"error":"{word}"}}\n'.encode()))
+            remedy = {401: ("www-authenticate", "Bearer"), 405: ("allow", "GET, HEAD" + ", POST" * target.startswith("/v1/questions/"))}.get(status)
+            found += differs(f"the remedy of {status}", remedy is None or is_so[1].get(remedy[0]) == remedy[1], True)
         found += differs("nothing was proposed", gateway.json("/v1/questions")["states"], "-" * 512)
         found += differs("nor handed on", [it for it in cluster.liar.lines if it.startswith("PROPOSE")], [])
         for heads in ({}, {"Origin": f"http://{here}"}, {"Content_Type": "application/json; charset=utf-8"}):
@@ -736,7 +738,7 @@ def a_chain_goes_on(folder, port):
             for slot in (8192, 2**63, 2**64 - 1):
                 found += differs(f"slot {slot}", gateway.json(f"/v1/questions/{slot}", 404), {"error": "question"})
                 found += differs(f"a proposal on {slot}", gateway.propose(slot, 1), (404, {"error": "question"}))
-            found += differs("a slot that members refuse", gateway.propose(8000, 1), (404, {"error": "question"}))
+            found += differs("a slot that members refuse", gateway.propose(8000, 1, "?wait=60"), (404, {"error": "question"}))
             found += differs("what that leaves", gateway.json("/v1/questions/8000")["state"], "unproposed")
             found += differs("slot 2^64", gateway.ask("GET", f"/v1/questions/{2**64}")[0], 404)
             values, _ = samples(gateway.ask("GET", "/metrics")[2].decode())
@@ -758,7 +760,7 @@ class MadeUpDesks:
 
     def __init__(self, folder, port, questions, closed):
         self.questions, self.closed, self.told = questions, closed, [[] for _ in closed]
-        self.late, self.asked = {}, set()
+        self.late, self.asked, self.pause = {}, set(), 0
         self.listeners = [socket.create_server(("127.0.0.1", port + me), backlog=64) for me in range(len(closed))]
         self.folder, self.port = folder, port
         write_client(folder, questions, [f"127.0.0.1:{port + me}" for me in range(len(closed))], True)
@@ -778,6 +780,7 @@ class MadeUpDesks:
                 self.asked.add(words[0])
                 if words[0] == "FOLLOW":
                     return self.tell(me, link, int(words[1]))
+                time.sleep(self.pause if words[0] in ("ASK", "STATE") else 0)
                 if words[0] == "ASK" and int(words[1]) in self.late:
                     link.sendall(b"DECIDED %d\n" % self.late[int(words[1])])
                     continue
@@ -837,6 +840,10 @@ def windows(desks, gateway):
     first = window(gateway)[0]
     found += differs("the window goes no further than the first of them has come", first <= 9000 - 2 * 2048, True)
     found += differs("nothing of it is decided", gateway.json(f"/v1/questions/{first + 10}")["state"], "proposed")
+    desks.pause = 0.5
+    time.sleep(3)
+    found += differs("a proposal that comes while members are asked", gateway.propose(first + 11, 1)[1].get("taken"), 4)
+    desks.pause = 0
     desks.told[1] = desks.told[0] = list(range(30_000))
     found += differs("two more", soon(lambda: window(gateway)[0] >= 30_000 - 3 * 2048, 40), True)
     first, last = window(gateway)

@@ -102,6 +102,7 @@ impl<'a, C: Cluster> Service for Door<'a, C> {
     ) -> Result<(), AllocError> {
         let follow = self.serve(request, response);
         self.follow = later(self.follow, followed(request, follow));
+        let _told = put_remedy(request, response).is_ok();
         Ok(())
     }
 }
@@ -160,10 +161,39 @@ fn kind_value(kind: Kind) -> HeaderValue {
     }
 }
 
+/// Puts into the head of a refusal what would be taken: a token, or another method.
+fn put_remedy(request: &Request<Bytes>, response: &mut Response) -> Result<(), AllocError>
+    ensures body { response.new.body ≡ response.old.body }
+    ensures status { response.new.status ≡ response.old.status }
+{
+    match response.status.as_u16() {
+        401 => put(response, header::WWW_AUTHENTICATE, "Bearer"),
+        405 => put_methods(request, response),
+        _ => Ok(()),
+    }
+}
+
+/// Puts the methods that a path takes into a head.
+fn put_methods(request: &Request<Bytes>, response: &mut Response) -> Result<(), AllocError>
+    ensures body { response.new.body ≡ response.old.body }
+    ensures status { response.new.status ≡ response.old.status }
+{
+    if takes_proposals(request.uri().path()) {
+        return put(response, header::ALLOW, "GET, HEAD, POST");
+    }
+    put(response, header::ALLOW, "GET, HEAD")
+}
+
+/// Returns `true` if this path, which there is, is that of a question.
+fn takes_proposals(path: &str) -> bool {
+    path.starts_with("/v1/questions/") && !path.ends_with("/transcript")
+}
+
 /// Puts a field into a head.
 fn put(response: &mut Response, name: HeaderName, value: &'static str) -> Result<(), AllocError>
     requires { IsTrue (is_visible_text value.now) }
-    ensures { response.new.body ≡ response.old.body }
+    ensures body { response.new.body ≡ response.old.body }
+    ensures status { response.new.status ≡ response.old.status }
 {
     response.add_header(name, HeaderValue::from_static(value))
 }
