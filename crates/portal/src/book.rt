@@ -40,9 +40,10 @@ pub(crate) struct Motion {
 }
 
 impl Motion {
-    /// Returns `true` if all members that replied refused it.
-    pub(crate) fn is_refused(&self) -> bool {
-        self.refused > 0 && !self.is_heard()
+    /// Returns `true` if more than t members refused it, so that a correct one did, and none took
+    /// it.
+    pub(crate) fn is_refused(&self, t: u8) -> bool {
+        self.refused > t && !self.is_heard()
     }
 
     /// Returns `true` if a member took it, had one, or decided.

@@ -164,7 +164,7 @@ impl<'a, R: Speaker> Reach<'a, R> {
         }
         drop(book);
         if !motion.is_heard() {
-            return self.refuse(unheard(motion));
+            return self.refuse(unheard(motion, self.shared.scope.size.t()));
         }
         let outcome = Outcome {
             standing,
@@ -174,10 +174,10 @@ impl<'a, R: Speaker> Reach<'a, R> {
         self.proposed(proposal.question, outcome)
     }
 
-    /// Returns `true` if all members that replied to a proposal refused it.
+    /// Returns `true` if more than t members refused a proposal, and none took it.
     fn is_refused(&self, number: u64) -> bool {
         match self.shared.book.lock(self.rt).motion(number) {
-            Some(motion) => motion.is_refused(),
+            Some(motion) => motion.is_refused(self.shared.scope.size.t()),
             None => false,
         }
     }
@@ -277,9 +277,10 @@ impl<'a, R: Speaker> Cluster for Reach<'a, R> {
     }
 }
 
-/// Returns the refusal of a proposal that no member took: some refused it, or none answered.
-fn unheard(motion: Motion) -> Refusal {
-    if motion.is_refused() {
+/// Returns the refusal of a proposal that no member took: more than t refused it, or too few
+/// answered.
+fn unheard(motion: Motion, t: u8) -> Refusal {
+    if motion.is_refused(t) {
         Refusal::Question
     } else {
         Refusal::Silent
