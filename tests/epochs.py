@@ -228,8 +228,8 @@ def slots_over_many_epochs():
             expect(replies == ["ERR 3 bit", *["ERR 1 line"] * 5, "UNPROPOSED", f"DECIDED {bits[3]}"], f"{replies}")
             # What is wrong first of slots that there are not, and lines that no slot makes so long.
             replies = desk.ask("ASK 99999999999999999999 x", "PROPOSE 99999999999999999999", "PROPOSE 18446744073709551615 2",
-                               "x" * 1024 + "ASK 400", "x" * 3000, "ASK 3")
-            expect(replies == ["ERR 1 line", "ERR 1 line", "ERR 2 question", "ERR 1 line", "ERR 1 line", f"DECIDED {bits[3]}"], f"{replies}")
+                               "x" * 1024 + "ASK 400", "x" * 3000, "ASK 19")
+            expect(replies == ["ERR 1 line", "ERR 1 line", "ERR 2 question", "ERR 1 line", "ERR 1 line", f"DECIDED {bits[19]}"], f"{replies}")
         names = sorted(os.listdir(it.journals(0)), key=lambda name: int(name.split(".")[0]))
         expect(names[:11] == [f"{epoch}.journal" for epoch in range(11)], f"{names}")
 
@@ -654,10 +654,24 @@ def an_await_ends_with_its_epoch():
 
 
 def a_client_outlasts_its_epoch():
-    """Who waits for an open slot of an epoch that ends is answered then, and asks on over the same connection."""
+    """Who waits for an open slot of an epoch that ends is answered then, and asks on over the same connection. So do clients that ask three
+    times a second."""
     with chain(27195, starts=1, n=1, t=0, questions=2) as it:
         bits = drawn(6)
         decide([it.desk(0)], bits, [0, 2, 4])
+        polls, stop, cut = [it.desk(0) for _ in range(8)], threading.Event(), []
+
+        def ask_often(poll):
+            poll.connect()
+            while not stop.wait(0.3):
+                poll.stream.sendall(b"ASK 0\n")
+                if poll.lines.readline() != f"DECIDED {bits[0]}\n".encode():
+                    cut.append(poll)
+                    return
+
+        threads = [threading.Thread(target=ask_often, args=(poll,), daemon=True) for poll in polls]
+        for thread in threads:
+            thread.start()
         time.sleep(6)
         desk = it.desk(0)
         desk.connect()
@@ -666,6 +680,10 @@ def a_client_outlasts_its_epoch():
             desk.stream.sendall(f"{lines}\n".encode())
             said = [desk.lines.readline().decode() for _ in replies]
             expect(said == [f"{reply}\n" for reply in replies], f"{lines!r}: {said} after {time.monotonic() - begun:.1f} s: {it.log(0)}")
+        stop.set()
+        for thread in threads:
+            thread.join()
+        expect(not cut, f"{len(cut)} that ask often are cut: {it.log(0)}")
 
 
 def who_waits_for_a_place_outlasts_the_epoch():
