@@ -8,6 +8,7 @@ use Rattle.chain.specs.declared.opening.Known.{Known}
 use Rattle.chain.specs.declared.slots.Chain.{Chain}
 use Rattle.chain.specs.declared.opening.Ask.{Ask}
 use Rattle.epochs.specs.declared.board.Report.{Report}
+use Rattle.epochs.specs.declared.state.Parked.{Parked}
 use Rattle.epochs.specs.declared.state.State.{State}
 use Rattle.epochs.specs.Asking.{tells_next}
 use Rattle.epochs.specs.Asks.{heard_since, standing}
@@ -58,6 +59,11 @@ runs state epoch = list_any (λ one. one.epoch == epoch) state.running.items
 pub record IsDue (chain : Chain) (state : State) (epoch : ℕ) : Type 0 where
   pub may : MayRun chain state epoch
   pub rests : runs state epoch ≡ false
+
+-- a client waits in it for an epoch that may run, and doesn't
+pub record IsAwaited (chain : Chain) (state : State) (one : Parked) : Type 0 where
+  pub client : one.is_link ≡ false
+  pub due : IsDue chain state one.epoch
 
 -- the least of a number and of these
 abbrev pub least : ℕ → List ℕ → ℕ

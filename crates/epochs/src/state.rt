@@ -8,7 +8,7 @@ ghost use Rattle.chain.specs.Slots.{chain_size};
 ghost use Rattle.chain.specs.declared.opening.Known.{Known};
 ghost use Rattle.epochs.specs.Asking.{HasFewAsks, asks_by, tells_next};
 ghost use Rattle.epochs.specs.Asks.{heard_since, not_asked, not_for, standing};
-ghost use Rattle.epochs.specs.Opens.{IsDue, IsKept, IsKnown, IsMadeFor, IsMissed, MayRun, WasLeftOut, first_open, has_gone_quiet, least, next_change, runs, ticked};
+ghost use Rattle.epochs.specs.Opens.{IsAwaited, IsDue, IsKept, IsKnown, IsMadeFor, IsMissed, MayRun, WasLeftOut, first_open, has_gone_quiet, least, next_change, runs, ticked};
 ghost use Rattle.epochs.specs.Parking.{WaitOn, is_patient, place_of, waiting_elsewhere};
 ghost use Rattle.epochs.specs.Reports.{noted, readied, running_elsewhere, running_in};
 ghost use Rattle.epochs.specs.Verdicts.{IsUntouched, has_begun, has_open, verdict_at};
@@ -18,7 +18,8 @@ ghost use Rattle.epochs.specs.declared.verdicts.Verdicts.{Verdicts};
 ghost use Rattle.epochs.specs.declared.board.Onward.TheVariants.{Await, Move, Pass, Stay, Tell};
 ghost use Rattle.epochs.specs.declared.board.Stored.TheVariants.{Ahead, Decided, Far, Gone, Open};
 ghost use Rattle.epochs.specs.declared.state.Place.TheVariants as place;
-ghost use Rattle.epochs.specs.declared.state.TheConstants.{AHEAD, PARKED};
+ghost use Rattle.epochs.specs.declared.state.Parked.{Parked};
+ghost use Rattle.epochs.specs.declared.state.TheConstants.{AHEAD, MOST, PARKED};
 ghost use Rattle.epochs.specs.declared.running.TheConstants.{QUIET};
 
 use crate::asks::Asks;
@@ -195,6 +196,9 @@ impl State {
         ensures due { IfSome result (IsDue chain.now self.now) }
         ensures newest { (epoch : ℕ) → self.now.newest ≤ epoch → epoch ≤ self.now.newest + 1 →
             epoch < 2 ^ 64 → IsDue chain.now self.now epoch → result ≢ None }
+        ensures awaited { length self.now.running.items < MOST → (one : Parked) →
+            Contains self.now.parked.items one → IsAwaited chain.now self.now one →
+            result ≢ None }
     {
         let front = self.newest.saturating_add(1);
         if self.is_due(chain, self.newest) {
@@ -222,7 +226,10 @@ impl State {
 
     /// Returns an epoch for which a client waits, however many others are made up for meanwhile.
     fn due_for_clients(&self, chain: &Chain) -> Option<u64>
-        ensures { IfSome result (IsDue chain.now self.now) }
+        ensures due { IfSome result (IsDue chain.now self.now) }
+        ensures awaited { length self.now.running.items < MOST → (one : Parked) →
+            Contains self.now.parked.items one → IsAwaited chain.now self.now one →
+            result ≢ None }
     {
         if self.running.len() >= MOST {
             return None;
@@ -235,7 +242,7 @@ impl State {
 
     /// Returns `true` if this is a client, and its epoch is to run and doesn't.
     fn is_awaited(&self, chain: &Chain, parked: &Parked) -> bool
-        ensures { IsTrue result → IsDue chain.now self.now parked.now.epoch }
+        ensures { IsTrue result ↔ IsAwaited chain.now self.now parked.now }
     {
         !parked.is_link && self.is_to_begin(chain, parked.epoch)
     }
