@@ -1,5 +1,5 @@
 -- Which epochs run, and which are closed.
-use Rattle.std.specs.Prelude.{ℕ, ◌≡◌, ◌<◌, ◌≤◌, ◌==◌, ◌+◌, ◌%◌, ◌^◌, Bool, List, [], ◌∷◌, false, length, map, min, slice_get, IfSome, if◌then◌else◌}
+use Rattle.std.specs.Prelude.{ℕ, ◌≡◌, ◌<◌, ◌≤◌, ◌==◌, ◌+◌, ◌%◌, ◌^◌, Bool, List, [], ◌∷◌, false, length, map, min, slice_get, Contains, IfSome, IsSomeAnd, if◌then◌else◌}
 use Rattle.std.specs.List.{list_any}
 use Rattle.std.specs.Option.{option_map_or}
 use Rattle.chain.specs.Opening.{IsOpenEpoch}
@@ -13,6 +13,7 @@ use Rattle.epochs.specs.declared.state.State.{State}
 use Rattle.epochs.specs.Asking.{tells_next}
 use Rattle.epochs.specs.Asks.{heard_since, standing}
 use Rattle.epochs.specs.Reports.{is_quiet, running_in}
+use Rattle.epochs.specs.Verdicts.{has_begun}
 
 -- what the state says of the chain
 pub record IsKnown (state : State) (known : Known) : Type 0 where
@@ -59,6 +60,11 @@ runs state epoch = list_any (λ one. one.epoch == epoch) state.running.items
 pub record IsDue (chain : Chain) (state : State) (epoch : ℕ) : Type 0 where
   pub may : MayRun chain state epoch
   pub rests : runs state epoch ≡ false
+
+-- the epoch isn't done, and nothing of it is known
+pub record IsToMakeUp (state : State) (epoch : ℕ) : Type 0 where
+  pub undone : Contains state.undone.items epoch
+  pub unheard : IsSomeAnd (slice_get state.verdicts.items epoch) (λ verdicts. has_begun verdicts ≡ false)
 
 -- a client waits in it for an epoch that may run, and doesn't
 pub record IsAwaited (chain : Chain) (state : State) (one : Parked) : Type 0 where

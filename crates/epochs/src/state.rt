@@ -8,7 +8,7 @@ ghost use Rattle.chain.specs.Slots.{chain_size};
 ghost use Rattle.chain.specs.declared.opening.Known.{Known};
 ghost use Rattle.epochs.specs.Asking.{HasFewAsks, asks_by, tells_next};
 ghost use Rattle.epochs.specs.Asks.{heard_since, not_asked, not_for, standing};
-ghost use Rattle.epochs.specs.Opens.{IsAwaited, IsDue, IsKept, IsKnown, IsMadeFor, IsMissed, MayRun, WasLeftOut, first_open, has_gone_quiet, least, next_change, runs, ticked};
+ghost use Rattle.epochs.specs.Opens.{IsAwaited, IsDue, IsKept, IsKnown, IsMadeFor, IsMissed, IsToMakeUp, MayRun, WasLeftOut, first_open, has_gone_quiet, least, next_change, runs, ticked};
 ghost use Rattle.epochs.specs.Parking.{WaitOn, is_patient, place_of, waiting_elsewhere};
 ghost use Rattle.epochs.specs.Reports.{noted, readied, running_elsewhere, running_in};
 ghost use Rattle.epochs.specs.Verdicts.{IsUntouched, has_begun, has_open, verdict_at};
@@ -933,7 +933,8 @@ impl State {
             × (epoch < self.now.newest) }
         ensures passes { running_in self.now.running.items epoch ≡ None →
             epoch < self.now.newest → result ≢ Stay }
-        ensures missed { result ≡ Await → Contains self.now.undone.items epoch }
+        ensures missed { result ≡ Await → IsToMakeUp self.now epoch }
+        ensures awaits { IsToMakeUp self.now epoch → result ≢ Pass }
     {
         if self.running_at(epoch).is_some() {
             return if self.is_over(chain, epoch) {
@@ -952,7 +953,7 @@ impl State {
 
     /// Returns `true` if nothing of the epoch is known and it isn't done: it is to be made up for.
     fn is_missed(&self, epoch: u64) -> bool
-        ensures { IsTrue result → Contains self.now.undone.items epoch }
+        ensures { IsTrue result ↔ IsToMakeUp self.now epoch }
     {
         if !self.undone.contains(&epoch) {
             return false;
