@@ -1,5 +1,5 @@
 -- Which epochs run, and which are closed.
-use Rattle.std.specs.Prelude.{ℕ, ◌≡◌, ◌<◌, ◌≤◌, ◌==◌, ◌+◌, ◌%◌, ◌^◌, Bool, List, [], ◌∷◌, false, length, map, min, slice_get, Contains, IfSome, IsSomeAnd, if◌then◌else◌}
+use Rattle.std.specs.Prelude.{ℕ, ◌≡◌, ◌<◌, ◌≤◌, ◌==◌, ◌&&◌, ◌+◌, ◌%◌, ◌^◌, Bool, List, [], ◌∷◌, false, filter, length, map, min, nat_lt, not, slice_get, Contains, IfSome, IsSomeAnd, if◌then◌else◌}
 use Rattle.std.specs.List.{list_any}
 use Rattle.std.specs.Option.{option_map_or}
 use Rattle.chain.specs.Opening.{IsOpenEpoch}
@@ -8,8 +8,11 @@ use Rattle.chain.specs.declared.opening.Known.{Known}
 use Rattle.chain.specs.declared.slots.Chain.{Chain}
 use Rattle.chain.specs.declared.opening.Ask.{Ask}
 use Rattle.epochs.specs.declared.board.Report.{Report}
+use Rattle.epochs.specs.declared.running.Running.{Running}
+use Rattle.epochs.specs.declared.running.TheConstants.{QUIET}
 use Rattle.epochs.specs.declared.state.Parked.{Parked}
 use Rattle.epochs.specs.declared.state.State.{State}
+use Rattle.epochs.specs.declared.state.TheConstants.{BEHIND, MOST}
 use Rattle.epochs.specs.Asking.{tells_next}
 use Rattle.epochs.specs.Asks.{heard_since, standing}
 use Rattle.epochs.specs.Reports.{is_quiet, running_in}
@@ -60,6 +63,18 @@ runs state epoch = list_any (λ one. one.epoch == epoch) state.running.items
 pub record IsDue (chain : Chain) (state : State) (epoch : ℕ) : Type 0 where
   pub may : MayRun chain state epoch
   pub rests : runs state epoch ≡ false
+
+-- an epoch that runs doesn't rest, and something has happened in it within ten seconds
+abbrev pub takes_room : Running → Bool
+takes_room one = not one.rests && nat_lt one.quiet QUIET
+
+-- it is behind the newest, and takes the room of another
+abbrev pub is_busy : ℕ → Running → Bool
+is_busy newest one = nat_lt one.epoch newest && takes_room one
+
+-- there is room for an epoch behind the newest
+abbrev pub has_room : State → Bool
+has_room state = nat_lt (length (filter (is_busy state.newest) state.running.items)) BEHIND && nat_lt (length state.running.items) MOST
 
 -- the epoch isn't done, and nothing of it is known
 pub record IsToMakeUp (state : State) (epoch : ℕ) : Type 0 where

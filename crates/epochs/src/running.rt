@@ -1,8 +1,8 @@
 //! The epochs that run.
 
-ghost use Rattle.std.specs.Prelude.{◌≡◌, ◌≢◌, ◌↔◌, ◌<◌, ℕ, ◌==◌, false, position, IsTrue, Option};
-ghost use Rattle.epochs.specs.declared.running.TheConstants.{QUIET};
+ghost use Rattle.std.specs.Prelude.{◌≡◌, ◌≢◌, ℕ, ◌==◌, position, Option};
 ghost use Rattle.std.specs.Option.{option_map};
+ghost use Rattle.epochs.specs.Opens.{is_busy, takes_room};
 ghost use Rattle.epochs.specs.Reports.{is_quiet, is_resting, noted, place_in, quiet_after, readied, running_in};
 
 use crate::board::{Doors, Report};
@@ -42,10 +42,17 @@ impl Running {
         }
     }
 
+    /// Returns `true` if it is behind that epoch, and takes the room of another.
+    pub(crate) fn is_busy(&self, newest: u64) -> bool
+        ensures { result ≡ is_busy newest self.now }
+    {
+        self.epoch < newest && self.takes_room()
+    }
+
     /// Returns `true` if it takes the room of another epoch behind the newest: it doesn't rest, and
     /// something has happened in it within ten seconds.
     pub(crate) fn takes_room(&self) -> bool
-        ensures { IsTrue result ↔ ((self.now.rests ≡ false) × (self.now.quiet < QUIET)) }
+        ensures { result ≡ takes_room self.now }
     {
         !self.rests && self.quiet < QUIET
     }

@@ -8,7 +8,7 @@ ghost use Rattle.chain.specs.Slots.{chain_size};
 ghost use Rattle.chain.specs.declared.opening.Known.{Known};
 ghost use Rattle.epochs.specs.Asking.{HasFewAsks, asks_by, tells_next};
 ghost use Rattle.epochs.specs.Asks.{heard_since, not_asked, not_for, standing};
-ghost use Rattle.epochs.specs.Opens.{IsAwaited, IsDue, IsKept, IsKnown, IsMadeFor, IsMissed, IsToMakeUp, MayRun, WasLeftOut, first_open, has_gone_quiet, least, next_change, runs, ticked};
+ghost use Rattle.epochs.specs.Opens.{IsAwaited, IsDue, IsKept, IsKnown, IsMadeFor, IsMissed, IsToMakeUp, MayRun, WasLeftOut, first_open, has_gone_quiet, has_room, is_busy, least, next_change, runs, ticked};
 ghost use Rattle.epochs.specs.Parking.{WaitOn, is_patient, place_of, waiting_elsewhere};
 ghost use Rattle.epochs.specs.Reports.{noted, readied, running_elsewhere, running_in};
 ghost use Rattle.epochs.specs.Verdicts.{IsUntouched, has_begun, has_open, verdict_at};
@@ -262,9 +262,10 @@ impl State {
 
     /// Returns how many of these aren't done here.
     fn made_up_for(&self) -> usize {
+        let newest = self.newest;
         self.running
             .iter()
-            .filter(|one| one.epoch < self.newest && one.takes_room())
+            .filter(|one| one.is_busy(newest))
             .filter(|one| self.undone.iter().any(|epoch| *epoch == one.epoch))
             .count()
     }
@@ -273,6 +274,8 @@ impl State {
     fn is_due(&self, chain: &Chain, epoch: u64) -> bool
         ensures due { IsTrue result → IsDue chain.now self.now epoch }
         ensures newest { self.now.newest ≤ epoch → IsDue chain.now self.now epoch →
+            IsTrue result }
+        ensures room { has_room self.now ≡ true → IsDue chain.now self.now epoch →
             IsTrue result }
     {
         self.is_to_begin(chain, epoch) && (epoch >= self.newest || self.has_room())
@@ -294,15 +297,20 @@ impl State {
     }
 
     /// Returns `true` if there is room for an epoch behind the newest.
-    fn has_room(&self) -> bool {
+    fn has_room(&self) -> bool
+        ensures { result ≡ has_room self.now }
+    {
         self.behind() < BEHIND && self.running.len() < MOST
     }
 
     /// Returns how many epochs behind the newest take the room of another.
-    fn behind(&self) -> usize {
+    fn behind(&self) -> usize
+        ensures { result ≡ length (filter (is_busy self.now.newest) self.now.running.items) }
+    {
+        let newest = self.newest;
         self.running
             .iter()
-            .filter(|one| one.epoch < self.newest && one.takes_room())
+            .filter(|one| one.is_busy(newest))
             .count()
     }
 
