@@ -1,15 +1,14 @@
 -- What is told of a book, question by question.
-use Rattle.std.proofs.Common.{ℕ, zero, suc, ◌≡◌, ◌+◌, ◌<◌, ◌≤◌, Bool, true, not, ◌&&◌, ◌||◌, if◌then◌else◌, refl, sym, ap, ◌∙◌, subst, arith, inl, inr, Option, Some, None, List, [], ◌∷◌, ◌++◌, is_some, slice_get, slice_set, slice_index_or}
+use Rattle.std.proofs.Common.{ℕ, zero, suc, ◌≡◌, ◌+◌, ◌<◌, ◌≤◌, Bool, true, ◌||◌, refl, sym, ap, ◌∙◌, subst, arith, inl, inr, Option, Some, None, List, [], ◌∷◌, ◌++◌, length, is_some, slice_get, slice_set, slice_index_or}
 use Rattle.std.specs.Prelude.{option_map}
 use Rattle.std.specs.Option.{option_to_list}
 use Rattle.std.proofs.lemmas.Bool.{cases_eq}
 use Rattle.terms_prelude.specs.Terms.{Record}
 use Rattle.member.specs.Answers.{verdict_of}
 use Rattle.running.specs.declared.events.LogEvent.{LogEvent}
-use Rattle.running.specs.declared.events.LogEvent.TheVariants.{Stopped}
 use Rattle.running.specs.Queues.{Waiting, HaveCome}
-use Rattle.running.specs.Watches.{Watching, AreTold, decision_event, decision_of, decisions_below, is_told, stop_of}
-use Rattle.running.proofs.Coming.{come_on}
+use Rattle.running.specs.Watches.{HaveFit}
+use Rattle.running.specs.Watches.{Watching, AreTold, decision_event, decision_of, decisions_below, is_told}
 
 -- a question that is looked at has its own entry changed, and no other
 set_same : (told : List Bool) (k : ℕ) (v : Bool)
@@ -61,26 +60,28 @@ event_same saved k old mid was =
     index_same : slice_get mid.told k ≡ slice_get old.told k → slice_index_or mid.told k true ≡ slice_index_or old.told k true
     index_same same = sym (by_get mid.told k) ∙ ap or_true same ∙ by_get old.told k
 
+-- what came after what came, while there was room
+fit_on : (old mid new : Waiting) (events more : List LogEvent) → HaveFit old events mid → HaveFit mid more new → HaveFit old (events ++ more) new
+fit_on old mid new [] more same come = subst (λ (w : Waiting). HaveFit w more new) same come
+fit_on old mid new (event ∷ events) more (room, (next, first, rest)) come = (room, (next, first, fit_on next mid new events more rest come))
+
+-- an event that came while there was room
+fit_one : (before after : Waiting) (event : Option LogEvent) → length before.events < 1024 → HaveCome before (option_to_list event) after
+    → HaveFit before (option_to_list event) after
+fit_one before after None room same = same
+fit_one before after (Some event) room (next, came, rest) = (room, (next, came, rest))
+
 -- the next question's news come behind those before it
 pub come_next : (saved : List Record) (k : ℕ) (old mid : Watching) (before between after : Waiting) (event : Option LogEvent)
-    → HaveCome before (decisions_below old saved k) between → AreTold saved k old.told mid.told
-    → event ≡ decision_of mid saved k → HaveCome between (option_to_list event) after
-    → HaveCome before (decisions_below old saved (k + 1)) after
-come_next saved k old mid before between after event came told is comes =
+    → HaveFit before (decisions_below old saved k) between → AreTold saved k old.told mid.told
+    → length between.events < 1024 → event ≡ decision_of mid saved k → HaveCome between (option_to_list event) after
+    → HaveFit before (decisions_below old saved (k + 1)) after
+come_next saved k old mid before between after event came told room is comes =
     let next : suc k ≡ k + 1 = omega arith in
-    subst (λ (n : ℕ). HaveCome before (decisions_below old saved n) after) next
-    (come_on before between after (decisions_below old saved k) (option_to_list (decision_of old saved k)) came
-    (subst (λ (e : Option LogEvent). HaveCome between (option_to_list e) after) (is ∙ event_same saved k old mid told) comes))
-
--- and the stop behind them all
-pub come_last : (saved : List Record) (k : ℕ) (stopped : Bool) (old mid : Watching) (before between after : Waiting) (event : Option LogEvent)
-    → HaveCome before (decisions_below old saved k) between → mid.stopped ≡ old.stopped
-    → event ≡ stop_of mid stopped → HaveCome between (option_to_list event) after
-    → HaveCome before (decisions_below old saved k ++ option_to_list (stop_of old stopped)) after
-come_last saved k stopped old mid before between after event came same is comes =
-    come_on before between after (decisions_below old saved k) (option_to_list (stop_of old stopped)) came
-    (subst (λ (e : Option LogEvent). HaveCome between (option_to_list e) after)
-    (is ∙ ap (λ (s : Bool). if stopped && not s then Some Stopped else None) same) comes)
+    subst (λ (n : ℕ). HaveFit before (decisions_below old saved n) after) next
+    (fit_on before between after (decisions_below old saved k) (option_to_list (decision_of old saved k)) came
+    (subst (λ (e : Option LogEvent). HaveFit between (option_to_list e) after) (is ∙ event_same saved k old mid told)
+    (fit_one between after event room comes)))
 
 -- so the next question's decision needs no telling any more, and what is told of the stop is as it was
 module _ (saved : List Record) (k : ℕ) (old mid between now : Watching)

@@ -9,12 +9,12 @@ use crate::sockets::shut;
 use crate::timing::{ACCEPT_PAUSE, HELLO_LIMIT};
 use epochs::{Arrival, Said, Switchboard};
 use machine::{Machine, RunFault};
-use std::io::Read;
+use std::io::{self, Read};
 use std::net::{IpAddr, SocketAddr, TcpStream};
 use std::os::unix::net::UnixListener;
 use std::sync::{Mutex, Wait};
 use std::thread;
-use std::time::Duration;
+use std::time::{Duration, Instant};
 
 /// The addresses at which a process that runs a chain listens.
 #[derive(Drop)]
@@ -192,14 +192,8 @@ fn hand_on<R: Machine>(
     mut socket: TcpStream,
     host: IpAddr,
 ) {
-    if socket
-        .set_read_timeout(Some(Duration::from_secs(HELLO_LIMIT)))
-        .is_err()
-    {
-        return;
-    }
     let mut hello = [0u8; HELLO];
-    if socket.read_exact(&mut hello).is_err() {
+    if !is_read_in_time(rt, &mut socket, &mut hello) {
         return;
     }
     let Some(claim) = Claim::read(hello.as_slice()) else {
@@ -212,6 +206,42 @@ fn hand_on<R: Machine>(
     said.extend(hello.as_slice());
     let arrival = Arrival { socket, host, said };
     board.hand_link(rt, claim.cluster, claim.from, arrival);
+}
+
+/// Fills the buffer from the link, within ten seconds in all. Returns `false` if that takes longer,
+/// or the link ends.
+fn is_read_in_time<R: Machine>(rt: &R, socket: &mut TcpStream, hello: &mut [u8]) -> bool {
+    let Ok(begun) = Instant::now(rt) else {
+        return false;
+    };
+    let mut read = 0usize;
+    for _ in 0..HELLO {
+        if !limits_read(rt, socket, begun) {
+            return false;
+        }
+        let Some(rest) = hello.get_mut(read..) else {
+            return false;
+        };
+        match socket.read(rest) {
+            Err(error) if error.kind() == io::ErrorKind::Interrupted => {}
+            Ok(0) | Err(_) => return false,
+            Ok(count) => read = read.saturating_add(count),
+        }
+        if read >= hello.len() {
+            return true;
+        }
+    }
+    false
+}
+
+/// Lets the next read of the link take what is left of ten seconds since `begun`. Returns `false`
+/// if nothing is.
+fn limits_read<R: Machine>(rt: &R, socket: &TcpStream, begun: Instant) -> bool {
+    let Ok(passed) = begun.elapsed(rt) else {
+        return false;
+    };
+    let left = Duration::from_secs(HELLO_LIMIT).saturating_sub(passed);
+    !left.is_zero() && socket.set_read_timeout(Some(left)).is_ok()
 }
 
 /// Returns `true` if that member's links are taken from this host.

@@ -56,15 +56,38 @@ impl<D: Disk, J: Life> Shared<D, J> {
                 if let Some(reception) = self.dial_once(
                     rt,
                     (peer, address),
-                    choice.version,
+                    self.version_of(choice),
                     second,
                 ) {
+                    self.log_chain_refusal(rt, peer, reception, choice);
                     choice = choice.after(reception);
                 }
             }
             self.clock.wait_to_dial(rt, &self.ending, peer, second);
         }
         unreachable!()
+    }
+
+    /// Returns the version of the next session. All members of a chain know version 2, and an
+    /// epoch that doesn't run yet refuses a session whatever its version.
+    fn version_of(&self, choice: Choice) -> Version {
+        match &self.chain {
+            Some(_) => Version::Two,
+            None => choice.version,
+        }
+    }
+
+    /// Tells that a peer of a chain refused a session, as it is told of one of version 1.
+    fn log_chain_refusal<R: Machine>(
+        &self,
+        rt: &R,
+        peer: u8,
+        reception: Reception,
+        choice: Choice,
+    ) {
+        if self.chain.is_some() && reception.is_told(choice.version) {
+            self.log_refusal(rt, Refusal::By(peer), None);
+        }
     }
 
     /// One session of that version of the link to a peer, which is dialled in this second of the

@@ -50,9 +50,16 @@ impl Queue {
     pub fn put(&mut self, event: LogEvent)
         ensures { HasCome self.old event self.new }
     {
-        if self.events.len() >= WAITING || self.events.push(event).is_err() {
+        if self.is_full() || self.events.push(event).is_err() {
             self.missed = self.missed.saturating_add(1);
         }
+    }
+
+    /// Returns `true` if 1,024 events wait, so that the next one would be missed.
+    pub fn is_full(&self) -> bool
+        ensures { IsTrue result ↔ (1024 ≤ length self.now.events) }
+    {
+        self.events.len() >= WAITING
     }
 
     /// Returns `true` if nothing waits.

@@ -101,9 +101,9 @@ impl Logger {
         unreachable!()
     }
 
-    /// Tells the log what waits to be told.
+    /// Tells the log what waits to be told, and then the member's stop, if that was seen.
     pub(crate) fn tell<L: Log, R: Machine>(&self, rt: &R, alloc: Global, log: &Mutex<L>) {
-        let (events, missed) = self.drain(rt, alloc);
+        let (events, missed, stops) = self.drain(rt, alloc);
         let mut log = log.lock(rt);
         for event in &events {
             log.tell(event);
@@ -111,13 +111,21 @@ impl Logger {
         if missed > 0 {
             log.tell(&LogEvent::Missed(missed));
         }
+        if stops {
+            log.tell(&LogEvent::Stopped);
+        }
     }
 
-    /// Takes what waits to be told, and how many events came too fast.
-    fn drain<R: Machine>(&self, rt: &R, alloc: Global) -> (Vec<LogEvent>, u64) {
+    /// Takes what waits to be told, how many events came too fast, and whether the member's stop is
+    /// to be told behind them, once. It does so under one lock: a look in between would add
+    /// decisions that were made before the stop.
+    fn drain<R: Machine>(&self, rt: &R, alloc: Global) -> (Vec<LogEvent>, u64, bool) {
         match &mut *self.telling.lock(rt) {
-            Some(telling) => telling.queue.drain(alloc),
-            None => (Vec::new(alloc), 0),
+            Some(telling) => {
+                let (events, missed) = telling.queue.drain(alloc);
+                (events, missed, telling.owes_stop())
+            }
+            None => (Vec::new(alloc), 0, false),
         }
     }
 }

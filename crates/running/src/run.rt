@@ -22,6 +22,7 @@ use crate::log::Log;
 use crate::logger::Logger;
 use crate::shared::Shared;
 use crate::threads::{can_start, least_threads};
+use crate::timing::LAST_LOOKS;
 use crate::tossers::lock_tossers;
 use crate::watch::Telling;
 use desk::Turns;
@@ -98,7 +99,10 @@ impl<D: Disk, J: Life> Shared<D, J> {
 
     /// Tells what is left to tell when all threads have ended, and the end.
     fn end_log<L: Log, R: Machine>(&self, rt: &R, log: &Mutex<L>) {
-        self.log_book(rt);
+        for _ in 0..LAST_LOOKS {
+            self.log_book(rt);
+            self.logger.tell(rt, self.alloc, log);
+        }
         self.logger.put_due(rt, u64::MAX);
         self.logger.tell(rt, self.alloc, log);
         log.lock(rt).tell(&LogEvent::End);

@@ -16,6 +16,10 @@ pub(crate) const BOOK_PAUSE: u64 = 5;
 /// The milliseconds after which the thread of the log looks again for what is to be told.
 pub(crate) const LOG_PAUSE: u64 = 100;
 
+/// The number of times that a member which ends looks for what is left to tell: each look finds
+/// 1,024 of at most 4,096 decisions, but for the first, before which others may wait.
+pub(crate) const LAST_LOOKS: u32 = 5;
+
 /// The seconds between two lines of the same refusal in a log, and in which it takes so many lines
 /// of the links of one member.
 pub(crate) const MINUTE: u64 = 60;

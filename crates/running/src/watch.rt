@@ -1,6 +1,6 @@
 //! The part of a member's book that was told.
 
-ghost use Rattle.std.specs.Prelude.{◌≡◌, ◌⊎◌, ◌+◌, ◌++◌, ◌||◌, false, Option, None, IfOk, IsOk, is_some, slice_set};
+ghost use Rattle.std.specs.Prelude.{◌≡◌, ◌⊎◌, ◌+◌, ◌++◌, ◌||◌, ◌&&◌, not, false, Option, None, IfOk, IsOk, is_some, slice_set};
 ghost use Rattle.std.specs.Option.{option_to_list};
 ghost use Rattle.member.specs.Answers.{verdict_of};
 ghost use Rattle.member.specs.Readers.{member_header, member_saved, member_is_stopped};
@@ -8,7 +8,7 @@ ghost use Rattle.running.specs.Queues.{HasCome, HaveCome, none};
 ghost use Rattle.running.specs.Refusals.{IsNoted, counted_by, dues, empty, events_of, held};
 ghost use Rattle.running.specs.declared.refusals.Refusal.TheVariants as kinds;
 ghost use Rattle.running.specs.declared.refusals.RefusalCount.{RefusalCount};
-ghost use Rattle.running.specs.Watches.{AreTold, decided_list, decision_of, decisions_below, is_told, stop_of};
+ghost use Rattle.running.specs.Watches.{HasLooked, decided_list, decision_of, is_told};
 
 use crate::callers::Caller;
 use crate::events::LogEvent;
@@ -21,8 +21,8 @@ use std::alloc::Global;
 use std::marker::Model;
 use terms::Memory;
 
-/// The decisions of a member that were told, or are of an earlier life, and its stop, if that was.
-/// Contracts see both.
+/// The decisions of a member that were told, or are of an earlier life, and whether its stop was
+/// seen. Contracts see both.
 #[derive(Drop)]
 pub(crate) struct Watch {
     /// Set for each question whose decision needs no telling.
@@ -79,17 +79,14 @@ impl Watch {
         Some(LogEvent::Decided(question, bit))
     }
 
-    /// The stop of the member, if it is to be told. It is told once.
-    fn stop<D: Disk, J: Naming>(&mut self, book: &Book<D, J>) -> Option<LogEvent>
-        ensures event { result ≡ stop_of self.old (member_is_stopped book.now.member) }
-        ensures stopped { self.new
+    /// Sees whether the member is stopped.
+    fn see_stop<D: Disk, J: Naming>(&mut self, book: &Book<D, J>)
+        ensures { self.new
             ≡ record self.old { stopped = self.old.stopped || member_is_stopped book.now.member } }
     {
-        if self.stopped || !book.is_stopped() {
-            return None;
+        if book.is_stopped() {
+            self.stopped = true;
         }
-        self.stopped = true;
-        Some(LogEvent::Stopped)
     }
 }
 
@@ -101,6 +98,8 @@ pub(crate) struct Telling {
     /// The number of lines of the links of each member that were told.
     paces: [Pace; 64],
     pub(crate) queue: Queue,
+    /// Set once the member's stop was handed out to be told.
+    tells_stop: bool,
 }
 
 impl Telling {
@@ -115,6 +114,7 @@ impl Telling {
             (member_header book.now.member).size.questions) }
         ensures stopped { IfOk result (λ telling. telling.watch.stopped ≡ false) }
         ensures refusals { IfOk result (λ telling. telling.refusals ≡ empty) }
+        ensures owed { IfOk result (λ telling. telling.tells_stop ≡ false) }
     {
         let watch = Watch::new(alloc, book)?;
         Ok(Telling {
@@ -122,6 +122,7 @@ impl Telling {
             refusals: Refusals::new(),
             paces: [Pace { began: 0, told: 0 }; 64],
             queue: Queue::new(alloc),
+            tells_stop: false,
         })
     }
 
@@ -180,31 +181,44 @@ impl Telling {
         self.refusals.tell_due(now, &mut self.queue);
     }
 
-    /// Has told what the book has that wasn't told: first its decisions, by their questions, and
-    /// then its stop.
+    /// Has told what the book has that wasn't told: its decisions, by their questions. Once all of
+    /// them wait it sees the member's stop, which is told behind what waits. What the queue has no
+    /// room for is told by a later look.
     pub(crate) fn look<D: Disk, J: Naming>(&mut self, book: &Book<D, J>)
-        ensures events { HaveCome self.old.queue
-            (decisions_below self.old.watch (member_saved book.now.member)
-            (member_header book.now.member).size.questions
-            ++ option_to_list (stop_of self.old.watch (member_is_stopped book.now.member)))
-            self.new.queue }
-        ensures told { AreTold (member_saved book.now.member)
-            (member_header book.now.member).size.questions self.old.watch.told self.new.watch.told }
-        ensures stopped { self.new.watch.stopped
-            ≡ (self.old.watch.stopped || member_is_stopped book.now.member) }
+        ensures looked { HasLooked (member_saved book.now.member)
+            (member_header book.now.member).size.questions (member_is_stopped book.now.member)
+            self.old.watch self.new.watch self.old.queue self.new.queue }
+        ensures owed { self.new.tells_stop ≡ self.old.tells_stop }
     {
         for question in 0..book.header().size().questions() {
+            if self.queue.is_full() {
+                return;
+            }
             let decision = self.watch.decision(book, question);
             self.put(decision);
         }
-        let stop = self.watch.stop(book);
-        self.put(stop);
+        self.watch.see_stop(book);
+    }
+
+    /// Returns `true` if the member's stop is to be told: it was seen, and this is the first call
+    /// since then. It takes no place in the queue, so it is never missed.
+    pub(crate) fn owes_stop(&mut self) -> bool
+        ensures owed { result ≡ (self.old.watch.stopped && not self.old.tells_stop) }
+        ensures told { self.new
+            ≡ record self.old { tells_stop = self.old.tells_stop || self.old.watch.stopped } }
+    {
+        if !self.watch.stopped || self.tells_stop {
+            return false;
+        }
+        self.tells_stop = true;
+        true
     }
 
     /// The event is to be told, if it is one.
     fn put(&mut self, event: Option<LogEvent>)
         ensures queue { HaveCome self.old.queue (option_to_list event) self.new.queue }
         ensures watch { self.new.watch ≡ self.old.watch }
+        ensures owed { self.new.tells_stop ≡ self.old.tells_stop }
     {
         if let Some(event) = event {
             self.queue.put(event);
