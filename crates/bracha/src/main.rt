@@ -39,7 +39,8 @@ fn end(rt: &HostRuntime, ended: Result<u8, Failure>) -> io::Result<ExitCode>
     match ended {
         Ok(status) => Ok(ExitCode::from(status)),
         Err(failure) => {
-            print_failure(rt, &failure)?;
+            // Where standard error is closed or full, the status tells alone.
+            let _unsaid = print_failure(rt, &failure).is_err();
             Ok(ExitCode::from(failure.fault.status()))
         }
     }
@@ -69,11 +70,19 @@ fn run<R: Caller>(rt: &R, host: &HostRuntime, _held: &HeldStreams) -> Result<u8,
         }
         Err(error) if error.kind() == ErrorKind::OutOfMemory => Err(Failure::from(Fault::Memory)),
         Err(error) => {
-            error.print(host).map_err(|error| Fault::from(error))?;
-            print_number(host, &error).map_err(|error| Fault::from(error))?;
-            Ok(status_of(&error))
+            let status = status_of(&error);
+            match print_words(host, &error) {
+                Err(unsaid) if status == 0 => Err(Failure::from(Fault::from(unsaid))),
+                _ => Ok(status),
+            }
         }
     }
+}
+
+/// Prints help, the version or a fault of the words.
+fn print_words(host: &HostRuntime, error: &clap::Error) -> io::Result<()> {
+    error.print(host)?;
+    print_number(host, error)
 }
 
 /// Prints what a number of the words has to be, if the error is about one and the environment

@@ -15,7 +15,7 @@ use files::{
 };
 use std::marker::Brand;
 use system::{RunOptions, log_form, run_file};
-use troubles::Failure;
+use troubles::{Failure, Fault, Whereabouts};
 
 /// Does the task, and gives the status to end with.
 pub(crate) fn work<R: Caller>(
@@ -126,6 +126,11 @@ fn decide<R: Caller>(rt: &R, host: &HostRuntime, words: DecideWords<'_>) -> Resu
 
 /// Asks a member for its state, or all.
 fn status<R: Caller>(rt: &R, host: &HostRuntime, words: StatusWords<'_>) -> Result<u8, Failure> {
+    if words.question.is_some() && (words.links || words.ready) {
+        let told = "--question can't be combined with --links or --ready";
+        let fault = Fault::Words;
+        return Err(Failure::at(host.alloc(), fault, "status", Whereabouts::Whole, &told));
+    }
     let form = StateForm {
         links: words.links,
         ready: words.ready,

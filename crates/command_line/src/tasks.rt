@@ -752,7 +752,7 @@ fn status<'a>(alloc: Global) -> Built<'a>
     let examples =
         "Prints UP M D if the member is up: it has made M statements and decided D questions. Prints STOPPED, with status 1, if it is stopped. With --links or --ready, prints LINKS I O N W: of N links, I come in and O go out, and W of both are needed to decide. With --question, prints DECIDED B, OPEN R S (the member is in round R, step S), SPENT (undecided after 32 rounds: it says nothing more of its own) or UNPROPOSED. With --all, ADDRESS is the file client.toml of `new-cluster`, and a line `member M REPLY` is printed for each member; the status is the highest of any.\n\nExamples (is it up; can it decide; are all):\n  bracha status 127.0.0.1:7111\n  bracha status --ready 127.0.0.1:7111\n  bracha status --all client.toml\n\nExample (how far are all on question 7):\n  bracha status --all --question 7 client.toml";
     let every = "Ask every member; ADDRESS is the file client.toml";
-    let question = "Print how far the member is on question Q instead";
+    let question = "Print how far the member is on question Q instead; not with --links or --ready";
     let links = "Print how many links come in and go out";
     let ready = "The same, with status 0 only if the links are enough to decide";
     let command = with_arg(named(alloc, "status", about, examples), address(alloc));
@@ -770,7 +770,7 @@ fn transcript<'a>(alloc: Global) -> Built<'a>
 {
     let about = "Print the statements that prove a decision";
     let examples =
-        "Prints `transcript Q bit B count C` and C lines `FROM HEX`, for `bracha audit`. Prints THIN if the member decided before its last start and has not heard a proof since: ask another member. Any reply but a transcript has status 1. With --all, ADDRESS is the file client.toml of `new-cluster`, and the first transcript that a member sends is printed; standard error says whose it is.\n\nExamples:\n  bracha transcript 127.0.0.1:7111 0 > decision.txt\n  bracha transcript --all client.toml 0 > decision.txt";
+        "Prints `transcript Q bit B count C` and C lines `FROM HEX`, for `bracha audit`. Prints THIN if the member decided before its last start and has not heard a proof since: ask another member. Any reply but a transcript has status 1. With --all, ADDRESS is the file client.toml of `new-cluster`, and the first transcript that is proof is printed; standard error says whose it is.\n\nExamples:\n  bracha transcript 127.0.0.1:7111 0 > decision.txt\n  bracha transcript --all client.toml 0 > decision.txt";
     let every = "Ask every member until one sends a transcript; ADDRESS is the file client.toml";
     let command = with_desk(alloc, named(alloc, "transcript", about, examples));
     let command = with_arg(command, all(alloc, every));

@@ -158,30 +158,32 @@ fn records_line(alloc: Global, count: usize) -> Result<String, AllocError>
 }
 
 /// Writes what the settings say, but for the seed, and how many records the journal that the disk
-/// has holds, if a member of these settings can run on it: one object of JSON in a line. The status
-/// is 0. The faults are those of [`check_journal`].
+/// has holds, if a member of this header can run on it: one object of JSON in a line. The header is
+/// that of the settings, or of an epoch of their chain. The status is 0. The faults are those of
+/// [`check_journal`].
 pub fn print_check<D: Disk, W: Write>(
     alloc: Global,
     settings: &Settings,
+    header: &Header,
     disk: &mut D,
     output: &mut W,
 ) -> Result<u8, DumpFault>
     ensures status { IfOk result (λ status. status ≡ 0) }
     ensures all { D.keeps disk.new →
         OnOk result ((records : List Record)
-        × Holds settings.now.header records (D.state disk.old).seen
+        × Holds header.now records (D.state disk.old).seen
         × Appends (W.contents output.old) (W.contents output.new)
         (check_object settings.now (length records))) }
     ensures fault { D.keeps disk.new → (fault : JournalFault) →
         result ≡ Err (DumpFault.Journal fault) → IsOfFile fault →
-        RefusesFile settings.now.header fault (D.state disk.old).seen }
+        RefusesFile header.now fault (D.state disk.old).seen }
     ensures nothing { (fault : JournalFault) → result ≡ Err (DumpFault.Journal fault) →
         output.new ≡ output.old }
     ensures only { IfErr result IsOfDump }
     ensures untouched { IsUntouched D.Disk disk.old disk.new }
 {
-    let records = read_records(alloc, disk, &settings.header)?;
-    let text = check_object(alloc, settings, records.len())?;
+    let held = read_records(alloc, disk, header)?;
+    let text = check_object(alloc, settings, held.len())?;
     output.write_all(&text)?;
     output.flush()?;
     Ok(0)

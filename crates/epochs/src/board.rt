@@ -44,6 +44,12 @@ impl Doors {
     }
 }
 
+/// A cause for which the member of an epoch ends, though its epoch is needed.
+pub trait Halt {
+    /// Returns `true` if the member is to end now. It is asked four times a second.
+    fn is_due(&self) -> bool;
+}
+
 /// The standing of an epoch that runs, as its clock tells it once a second.
 #[derive(Clone, Copy, Debug, PartialEq, Eq)]
 pub struct Report {
@@ -224,12 +230,12 @@ impl Switchboard {
         self.is_ended() || self.state.lock(rt).is_over(&self.chain, epoch)
     }
 
-    /// Waits until the epoch is to end, or its member is stopped. Its clients have two seconds to
+    /// Waits until the epoch is to end, or its member is halted. Its clients have two seconds to
     /// leave for another epoch.
-    pub fn await_end<R: Wait + Clock>(&self, rt: &R, epoch: u64, stopped: &AtomicBool) {
+    pub fn await_end<R: Wait + Clock, H: Halt>(&self, rt: &R, epoch: u64, halt: &H) {
         let mut over = 0u32;
         for _ in rt.forever() {
-            if self.is_ended() || over >= ENDING || stopped.load(Ordering::SeqCst) {
+            if self.is_ended() || over >= ENDING || halt.is_due() {
                 return;
             }
             over = if self.is_over(rt, epoch) {

@@ -14,7 +14,7 @@ mod state;
 mod turning;
 mod verdicts;
 
-pub use board::{Doors, Onward, Report, Stored, Switchboard};
+pub use board::{Doors, Halt, Onward, Report, Stored, Switchboard};
 pub use inbox::{Arrival, Inbox};
 pub use said::{MOST, Said};
 pub use turning::{

@@ -17,7 +17,7 @@ pub fn overlaps(one: &Address, other: &Address) -> bool
 }
 
 /// Returns `true` if the address is that of every host.
-fn is_any(address: &Address) -> bool {
+pub(crate) fn is_any(address: &Address) -> bool {
     address.octets == [0, 0, 0, 0]
 }
 

@@ -1,6 +1,7 @@
 //! Runs without a script: how many rounds decisions take (`rounds`), and drawn scripts for ever
 //! (`simulate --forever`).
 
+use crate::page_files::fault_at;
 use chances::{End, Order, Setting, chart_text, play, table_text};
 use commands::{Tried, print, takes_output, try_script};
 use std::alloc::Global;
@@ -120,7 +121,7 @@ fn write_chart(rt: &HostRuntime, path: Option<&str>, ends: &[End]) -> Result<(),
         Ok(()) => Ok(()),
         Err(error) => Err(Failure::of_system(
             rt.alloc(),
-            Fault::Chart,
+            fault_at(Some(path), Fault::Chart),
             path,
             Whereabouts::Write,
             error,

@@ -4,6 +4,7 @@ ghost use Rattle.troubles.specs.Faults.{IsMeant};
 ghost use Rattle.troubles.specs.declared.fault.Fault.TheVariants as ends;
 ghost use Rattle.std.specs.Prelude.{◌≡◌, IfErr};
 
+use crate::apart::is_any;
 use settings::{
     Address, ClientSettings, Key, Settings, SettingsFault, address_text, addresses_from, desk_base,
     new_settings,
@@ -12,6 +13,7 @@ use std::alloc::Global;
 use std::fs::{self, File, OpenOptions};
 use std::io::{self, Write};
 use std::os::unix::fs::OpenOptionsExt;
+use std::path::Path;
 use std::random::RandomSource;
 use terms::{Header, Size};
 use troubles::{Failure, Fault, Whereabouts};
@@ -42,7 +44,7 @@ pub struct NewCluster<'a> {
 
 /// The form of each host.
 const HOST_WORDS: &str =
-    "each must be `localhost` or four numbers with points between them: no host names, no IPv6";
+    "each must be `localhost` or four numbers with points between them: no host names, no IPv6, and not 0.0.0.0, where no member finds it";
 
 /// The failure of hosts that aren't any.
 fn bad_hosts(alloc: Global, wanted: &NewCluster<'_>, count: usize) -> Failure {
@@ -125,8 +127,8 @@ fn links_of(alloc: Global, wanted: &NewCluster<'_>, first: u16) -> Result<Vec<Ad
         return Err(bad_hosts(alloc, wanted, hosts.len()));
     }
     match addresses_from(alloc, hosts.as_slice(), first).map_err(|_| Fault::Memory)? {
-        Some(links) => Ok(links),
-        None => Err(bad_hosts(alloc, wanted, hosts.len())),
+        Some(links) if !links.iter().any(is_any) => Ok(links),
+        _ => Err(bad_hosts(alloc, wanted, hosts.len())),
     }
 }
 
@@ -135,11 +137,11 @@ fn links_of(alloc: Global, wanted: &NewCluster<'_>, first: u16) -> Result<Vec<Ad
 fn desks_of(alloc: Global, wanted: &NewCluster<'_>, first: u16) -> Result<Vec<Address>, Failure> {
     let hosts = desk_hosts_of(alloc, wanted)?;
     match addresses_from(alloc, hosts.as_slice(), first).map_err(|_| Fault::Memory)? {
-        Some(desks) => Ok(desks),
-        None => {
+        Some(desks) if !desks.iter().any(is_any) => Ok(desks),
+        _ => {
             let host = wanted.desk.unwrap_or("");
             let words =
-                "must be `links`, `localhost` or four numbers with points between them: no host names, no IPv6";
+                "must be `links`, `localhost` or four numbers with points between them: no host names, no IPv6, and not 0.0.0.0, where no client finds it";
             Err(Failure::at(alloc, Fault::Hosts, host, Whereabouts::Whole, &words))
         }
     }
@@ -410,7 +412,10 @@ pub(crate) fn make_folder(rt: &HostRuntime, folder: &str) -> Result<(), Failure>
         return Ok(());
     }
     match fs::create_dir(rt, folder) {
-        Ok(()) => Ok(()),
+        Ok(()) => {
+            keep_name(rt, folder);
+            Ok(())
+        }
         Err(error) => Err(Failure::of_system(
             rt.alloc(),
             Fault::File,
@@ -418,5 +423,19 @@ pub(crate) fn make_folder(rt: &HostRuntime, folder: &str) -> Result<(), Failure>
             Whereabouts::Write,
             error,
         )),
+    }
+}
+
+/// Syncs the parent of a new folder: a crash then keeps the folder's name. A system that can't is
+/// let be: a journal's disk syncs its folder too, and tells.
+fn keep_name(rt: &HostRuntime, folder: &str) {
+    let Ok(whole) = fs::canonicalize(rt, folder) else {
+        return;
+    };
+    let Some(above) = Path::new(whole.as_str()).parent() else {
+        return;
+    };
+    if let Ok(above) = File::open(rt, above) {
+        let _kept = above.sync_all().is_ok();
     }
 }

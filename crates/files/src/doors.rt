@@ -5,13 +5,17 @@ ghost use Rattle.std.specs.Fmt.{decimal};
 ghost use Rattle.std.specs.Prelude.{◌≡◌, ◌++◌, IfOk, IfSome, None, codes, string_bytes};
 ghost use Rattle.files.specs.Doors.{foreign_words};
 ghost use Rattle.files.specs.declared.doors.Door.TheVariants as door;
+ghost use Rattle.machine.specs.declared.fault.RunFault.TheVariants as ends_of_run;
+ghost use Rattle.troubles.specs.declared.fault.Fault.TheVariants as ends;
 
 use crate::apart::{member_at_desk, overlaps, own_links};
 use machine::RunFault;
 use settings::{Address, Settings, address_text};
 use std::alloc::{AllocError, Global};
-use std::io;
 use std::net::{IpAddr, SocketAddr, TcpListener};
+use std::os::unix::fs::FileTypeExt;
+use std::path::Path;
+use std::{fs, io};
 use troubles::{Failure, Fault, Whereabouts};
 
 /// The key of the settings that names an address at which a member listens.
@@ -68,7 +72,60 @@ pub fn keep_to_own_doors(rt: &HostRuntime, settings: &Settings) -> Result<(), Fa
     if let Some(own) = own_links(settings) {
         keep_to_host(rt, &own, own_door(settings))?;
     }
-    keep_to_host(rt, &settings.desk, Door::Desk)
+    keep_to_host(rt, &settings.desk, Door::Desk)?;
+    match &settings.desk_socket {
+        Some(path) => keep_to_socket(rt, path.as_str()),
+        None => Ok(()),
+    }
+}
+
+/// The most bytes of the path of a socket.
+const LONGEST_PATH: usize = 107;
+
+/// Refuses a path at which no socket can be made: it is too long, its folder can't be looked into
+/// or is none, or another file is there.
+///
+/// [`Fault::Run`] with [`RunFault::Listen`]: none can.
+fn keep_to_socket(rt: &HostRuntime, path: &str) -> Result<(), Failure> {
+    if path.len() > LONGEST_PATH {
+        return Err(no_socket(rt, path, &"the path of a socket has at most 107 bytes"));
+    }
+    match is_folder(rt, path) {
+        Ok(true) => {}
+        Ok(false) => return Err(no_socket(rt, path, &"its folder is a file")),
+        Err(error) => return Err(no_socket(rt, path, &error)),
+    }
+    if is_other_file(rt, path) {
+        return Err(no_socket(rt, path, &"a file is there that is no socket"));
+    }
+    Ok(())
+}
+
+/// The failure of a path at which no socket can be made.
+fn no_socket<T: std::fmt::Display>(rt: &HostRuntime, path: &str, words: &T) -> Failure
+    ensures { result.fault ≡ ends.Run ends_of_run.Listen }
+{
+    let fault = Fault::Run(RunFault::Listen);
+    Failure::at(rt.alloc(), fault, path, Whereabouts::Listen, words)
+}
+
+/// Returns `true` if what the path is in is a folder; a bare name is in the working folder.
+fn is_folder(rt: &HostRuntime, path: &str) -> io::Result<bool> {
+    match Path::new(path).parent() {
+        Some(folder) if !folder.as_os_str().is_empty() => {
+            let known = fs::metadata(rt, folder)?;
+            Ok(known.is_dir())
+        }
+        _ => Ok(true),
+    }
+}
+
+/// Returns `true` if a file is at the path that is no socket.
+fn is_other_file(rt: &HostRuntime, path: &str) -> bool {
+    match fs::symlink_metadata(rt, path) {
+        Ok(known) => !known.file_type().is_socket(),
+        Err(_) => false,
+    }
 }
 
 /// Refuses settings in which a member's desk is where its own links are, or another member's.

@@ -1,16 +1,26 @@
 //! The journals of a chain's epochs, in a folder.
 
+ghost use Rattle.commands.specs.declared.fault.InitFault.TheVariants.{NotEmpty};
+ghost use Rattle.machine.specs.declared.fault.RunFault.TheVariants.{Forgotten};
 ghost use Rattle.std.specs.Fmt.{decimal};
-ghost use Rattle.std.specs.Prelude.{◌≡◌, ◌++◌, IfOk, codes, string_bytes};
+ghost use Rattle.std.specs.Prelude.{◌≡◌, ◌+◌, ◌^◌, ◌≤◌, ◌++◌, IfErr, IfOk, codes, string_bytes};
+ghost use Rattle.terms_prelude.specs.Terms.{new_header};
+ghost use Rattle.troubles.specs.Faults.{IsMeant};
+ghost use Rattle.troubles.specs.declared.fault.Fault.TheVariants as ends;
 
-use crate::files::{Purpose, open_good_disk};
+use crate::files::{Purpose, Source, failure_for, keep_to_files, open_good_disk};
+use crate::forgotten::refuse_forgotten;
+use crate::unsynced::refuse_unsynced;
+use chain::Chain;
+use commands::InitFault;
 use disk::Premise;
 use epochs::Verdicts;
 use journal::{JournalFault, create, read_file};
 use numerals::number;
 use settings::Settings;
 use std::alloc::{AllocError, Global};
-use std::{fs, io};
+use std::fs::{self, File};
+use std::io;
 use terms::{Header, Memory};
 use troubles::{Failure, Fault, Whereabouts};
 
@@ -57,21 +67,97 @@ pub fn epochs_in(host: &HostRuntime, folder: &str) -> Result<Span, Failure> {
     }
 }
 
+/// Takes the lock of a chain's folder, which one process has at a time, until what this returns is
+/// dropped.
+///
+/// [`Fault::File`]: another process has it, or the folder can't be opened.
+pub fn lock_folder(host: &HostRuntime, folder: &str) -> Result<File, Failure>
+    ensures { IfErr result (λ failure. IsMeant ends.File failure.fault) }
+{
+    match locked(host, folder) {
+        Ok(held) => Ok(held),
+        Err(error) if error.kind() == io::ErrorKind::WouldBlock => {
+            let words = "another process has it";
+            Err(Failure::at(host.alloc(), Fault::File, folder, Whereabouts::Open, &words))
+        }
+        Err(error) if error.kind() == io::ErrorKind::NotFound => Err(nothing_in(host, folder)),
+        Err(error) => Err(failed(host, folder, &error)),
+    }
+}
+
+/// Opens the folder, and takes its lock.
+fn locked(host: &HostRuntime, folder: &str) -> io::Result<File> {
+    let held = File::open(host, folder)?;
+    held.try_lock()?;
+    Ok(held)
+}
+
+/// Returns the failure of a folder without a journal.
+fn nothing_in(host: &HostRuntime, folder: &str) -> Failure
+    ensures { result.fault ≡ ends.File }
+{
+    Failure::at(
+        host.alloc(),
+        Fault::File,
+        folder,
+        Whereabouts::Open,
+        &MISSING,
+    )
+}
+
+/// Refuses the folder of a chain in which a journal stands that was put aside: its member may never
+/// run again.
+///
+/// [`Fault::Run`] with [`machine::RunFault::Forgotten`]: one stands there.
+pub fn refuse_forgotten_in(host: &HostRuntime, folder: &str, member: u8) -> Result<(), Failure>
+    ensures { IfErr result (λ failure. IsMeant (ends.Run Forgotten) failure.fault) }
+{
+    let Ok(Some(span)) = span_of(host, folder, ".journal.forgotten") else {
+        // One that can't be looked into is refused when its journals are looked for.
+        return Ok(());
+    };
+    let path = epoch_path(host.alloc(), folder, span.first).map_err(|_| Fault::Memory)?;
+    refuse_forgotten(host, path.as_str(), member)
+}
+
+/// Refuses to begin a chain in a folder that has journals of later epochs: its member runs on them.
+///
+/// [`Fault::Init`] with [`InitFault::NotEmpty`]: it has.
+pub(crate) fn refuse_later_epochs(host: &HostRuntime, folder: &str) -> Result<(), Failure>
+    ensures { IfErr result (λ failure. IsMeant (ends.Init NotEmpty) failure.fault) }
+{
+    let last = match span_in(host, folder) {
+        Ok(Some(Span { last, .. })) if last > 0 => last,
+        // One that can't be looked into is refused when the first journal is made.
+        _ => return Ok(()),
+    };
+    let fault = Fault::Init(InitFault::NotEmpty);
+    let words = format!(in host.alloc();
+        "journals up to that of epoch {last} are here: the member has run on them"
+    ).map_err(|_| Fault::Memory)?;
+    Err(Failure::at(host.alloc(), fault, folder, Whereabouts::Whole, &words))
+}
+
 /// Returns the epochs whose journals are in the folder.
 fn span_in(host: &HostRuntime, folder: &str) -> io::Result<Option<Span>> {
+    span_of(host, folder, ".journal")
+}
+
+/// Returns the epochs of which the folder has a file with this ending.
+fn span_of(host: &HostRuntime, folder: &str, ending: &str) -> io::Result<Option<Span>> {
     let mut span = None;
     for entry in fs::read_dir(host, folder)? {
         let entry = entry?;
-        if let Some(epoch) = epoch_named(entry.file_name()) {
+        if let Some(epoch) = epoch_named(entry.file_name(), ending) {
             span = Some(with_epoch(span, epoch));
         }
     }
     Ok(span)
 }
 
-/// Returns the epoch whose journal has this name, if one's has.
-fn epoch_named(name: &str) -> Option<u64> {
-    number(name.strip_suffix(".journal")?.as_bytes())
+/// Returns the epoch whose file with this ending has this name, if one's has.
+fn epoch_named(name: &str, ending: &str) -> Option<u64> {
+    number(name.strip_suffix(ending)?.as_bytes())
 }
 
 /// Returns the span with one epoch more.
@@ -88,15 +174,89 @@ fn with_epoch(span: Option<Span>, epoch: u64) -> Span {
     }
 }
 
-/// Returns the failure of a folder without a journal.
-fn nothing_in(host: &HostRuntime, folder: &str) -> Failure {
-    Failure::at(
-        host.alloc(),
-        Fault::File,
-        folder,
-        Whereabouts::Open,
-        &MISSING,
-    )
+/// The header of the journal of an epoch of these settings' chain, whose folder this is.
+///
+/// [`Fault::File`]: the epoch's cluster number would be above 2^64 - 1.
+pub fn epoch_header(
+    host: &HostRuntime,
+    settings: &Settings,
+    folder: &str,
+    epoch: u64,
+) -> Result<Header, Failure>
+    ensures header { IfOk result
+        (λ header. header ≡ new_header (settings.now.header.cluster + epoch)
+        settings.now.header.size settings.now.header.me) }
+    ensures fault { IfErr result (λ failure. IsMeant ends.File failure.fault) }
+    ensures last { IfErr result
+        (λ failure. failure.fault ≡ ends.File → 2 ^ 64 ≤ settings.now.header.cluster + epoch) }
+{
+    let own = settings.header;
+    let chain = Chain::new(own.cluster(), own.size());
+    let Some(cluster) = chain.cluster_of(epoch) else {
+        let words = "the chain has come to its last cluster number";
+        return Err(Failure::at(
+            host.alloc(),
+            Fault::File,
+            folder,
+            Whereabouts::Whole,
+            &words,
+        ));
+    };
+    match Header::new(cluster, own.size(), own.me()) {
+        Some(header) => Ok(header),
+        None => Err(Failure::from(Fault::Memory)),
+    }
+}
+
+/// A journal that is checked: its path, and the header that it has to have.
+#[derive(Drop)]
+pub(crate) struct Checked {
+    pub(crate) path: String,
+    pub(crate) header: Header,
+}
+
+/// Returns the journal of these settings that is checked: in a chain that of the newest epoch, once
+/// all others in the folder were looked into, as `run` does it.
+///
+/// [`Fault::Run`] with [`machine::RunFault::Forgotten`], [`Fault::File`], [`Fault::Journal`]: `run`
+/// would end so.
+pub(crate) fn checked_journal(host: &HostRuntime, settings: &Settings) -> Result<Checked, Failure> {
+    match &settings.epochs {
+        Some(folder) => newest_journal(host, settings, folder.as_str()),
+        None => Ok(Checked {
+            path: settings.journal.clone().map_err(|_| Fault::Memory)?,
+            header: settings.header,
+        }),
+    }
+}
+
+/// Returns the journal of the newest epoch in the folder of a chain, once the others were looked
+/// into.
+fn newest_journal(
+    host: &HostRuntime,
+    settings: &Settings,
+    folder: &str,
+) -> Result<Checked, Failure> {
+    refuse_forgotten_in(host, folder, settings.header.me())?;
+    let Span { first, last } = epochs_in(host, folder)?;
+    for epoch in first..last {
+        let older = journal_of(host, settings, folder, epoch)?;
+        look_into(host, older.path.as_str(), &older.header)?;
+    }
+    journal_of(host, settings, folder, last)
+}
+
+/// Returns the journal of an epoch.
+fn journal_of(
+    host: &HostRuntime,
+    settings: &Settings,
+    folder: &str,
+    epoch: u64,
+) -> Result<Checked, Failure> {
+    Ok(Checked {
+        path: epoch_path(host.alloc(), folder, epoch).map_err(|_| Fault::Memory)?,
+        header: epoch_header(host, settings, folder, epoch)?,
+    })
 }
 
 /// Makes an epoch's journal, if there is none. It is made beside its place and then renamed, so
@@ -127,13 +287,10 @@ pub fn make_journal<P: Premise>(
 
 /// Makes a journal in a file that isn't there.
 fn create_at<P: Premise>(host: &HostRuntime, path: &str, header: &Header) -> Result<(), Failure> {
-    let (mut disk, _source) = open_good_disk::<P>(host, path, Purpose::Make)?;
+    let (mut disk, source) = open_good_disk::<P>(host, path, Purpose::Make)?;
     match create(&mut disk, header) {
         Ok(()) => Ok(()),
-        Err(fault) => {
-            let words = "the journal of a new epoch can't be made";
-            Err(journal_failure(host, path, fault, words))
-        }
+        Err(fault) => Err(failure_for(host, &source, Fault::Journal(fault), fault, None)),
     }
 }
 
@@ -145,12 +302,19 @@ pub fn is_missing(host: &HostRuntime, path: &str) -> bool {
     }
 }
 
+/// The words on a journal that is missing while those around it are there.
+const LOST: &str = "no such file: put this journal back, since its member may have spoken on it";
+
 /// Returns what an epoch's journal says.
 ///
-/// [`Fault::File`], [`Fault::Journal`]: it isn't there, or can't be read.
+/// [`Fault::File`], [`Fault::Journal`]: it isn't there, can't be read, or a sync of it failed since
+/// the machine was started.
 pub fn look_into(host: &HostRuntime, path: &str, header: &Header) -> Result<Verdicts, Failure> {
+    refuse_unsynced(host, path)?;
+    keep_to_files(host, path)?;
     let bytes = match fs::read(host, path) {
         Ok(bytes) => bytes,
+        Err(error) if error.kind() == io::ErrorKind::NotFound => return Err(lost(host, path)),
         Err(error) => return Err(failed(host, path, &error)),
     };
     match read_file(host.alloc(), header, &bytes) {
@@ -159,20 +323,25 @@ pub fn look_into(host: &HostRuntime, path: &str, header: &Header) -> Result<Verd
             Err(Memory) => Err(Failure::from(Fault::Memory)),
         },
         Err(JournalFault::Memory) => Err(Failure::from(Fault::Memory)),
-        Err(fault) => {
-            let words = "the journal of an epoch can't be read: see `bracha dump`";
-            Err(journal_failure(host, path, fault, words))
+        Err(found) => {
+            let source = Source {
+                path,
+                first_error: None,
+            };
+            let fault = Fault::Journal(found);
+            Err(failure_for(host, &source, fault, found, Some(header)))
         }
     }
 }
 
-/// Returns the failure of a file.
-fn failed(host: &HostRuntime, path: &str, error: &io::Error) -> Failure {
-    Failure::at(host.alloc(), Fault::File, path, Whereabouts::Open, error)
+/// Returns the failure of a journal that is missing while those around it are there.
+fn lost(host: &HostRuntime, path: &str) -> Failure {
+    Failure::at(host.alloc(), Fault::File, path, Whereabouts::Open, &LOST)
 }
 
-/// Returns the failure of an epoch's journal, told in these words.
-fn journal_failure(host: &HostRuntime, path: &str, fault: JournalFault, words: &str) -> Failure {
-    let fault = Fault::Journal(fault);
-    Failure::at(host.alloc(), fault, path, Whereabouts::Whole, &words)
+/// Returns the failure of a file.
+fn failed(host: &HostRuntime, path: &str, error: &io::Error) -> Failure
+    ensures { result.fault ≡ ends.File }
+{
+    Failure::at(host.alloc(), Fault::File, path, Whereabouts::Open, error)
 }

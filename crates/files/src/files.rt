@@ -12,7 +12,9 @@ ghost use Rattle.std.specs.Prelude.{◌≡◌, ◌≢◌, IfErr, IfOk, IfSome, c
 
 use crate::cluster::make_folder;
 use crate::doors::keep_to_own_doors;
-use crate::epoch_files::first_journal;
+use crate::epoch_files::{
+    Checked, checked_journal, first_journal, refuse_forgotten_in, refuse_later_epochs,
+};
 use crate::forgotten::refuse_forgotten;
 use crate::page_files::{
     Page, fault_at, keep_apart, keep_two_apart, name_of, warn_of_length, write_page,
@@ -214,6 +216,8 @@ pub fn init_file<P: Premise>(rt: &HostRuntime, path: &str) -> Result<u8, Failure
     let settings = read_settings(rt, path)?;
     if let Some(folder) = &settings.epochs {
         make_folder(rt, folder.as_str())?;
+        refuse_forgotten_in(rt, folder.as_str(), settings.header.me())?;
+        refuse_later_epochs(rt, folder.as_str())?;
     }
     let journal = first_journal(rt.alloc(), &settings).map_err(|_| Fault::Memory)?;
     let journal = journal.as_str();
@@ -282,21 +286,22 @@ fn failure_by_bytes(
     }
 }
 
-/// Says what the settings in the file say, and how many records their journal has, if the member
-/// can run on it. As an object of JSON it is said once all of it is known.
+/// Says what the settings in the file say, and how many records their journal has, or that of the
+/// newest epoch of their chain, if the member can run on it. As an object of JSON it is said once
+/// all of it is known.
 pub fn check_file(rt: &HostRuntime, path: &str, json: bool) -> Result<u8, Failure> {
     let settings = read_settings(rt, path)?;
-    let journal = first_journal(rt.alloc(), &settings).map_err(|_| Fault::Memory)?;
-    let journal = journal.as_str();
     if !json {
         print_settings(rt.alloc(), &settings, &mut io::writer(rt)).map_err(|fault| Fault::from(
             fault,
         ))?;
     }
-    refuse_forgotten(rt, journal, settings.header.me())?;
+    let Checked { path, header } = checked_journal(rt, &settings)?;
+    let journal = path.as_str();
+    refuse_forgotten(rt, journal, header.me())?;
     refuse_unsynced(rt, journal)?;
     let mut disk = copied_disk(rt, journal)?;
-    match print_records(rt, &settings, &mut disk, json) {
+    match print_records(rt, &settings, &header, &mut disk, json) {
         Ok(status) => {
             keep_to_own_doors(rt, &settings)?;
             Ok(status)
@@ -306,7 +311,7 @@ pub fn check_file(rt: &HostRuntime, path: &str, json: bool) -> Result<u8, Failur
                 path: journal,
                 first_error: None,
             };
-            Err(dump_failure(rt, &source, fault, Some(&settings.header)))
+            Err(dump_failure(rt, &source, fault, Some(&header)))
         }
     }
 }
@@ -336,7 +341,7 @@ fn copied_disk(rt: &HostRuntime, journal: &str) -> Result<MemDisk, Failure>
 
 /// Refuses a device or a pipe, which might be waited for or read without an end. A file is taken,
 /// and so is nothing at all, and a folder, which the system refuses. [`Fault::File`]: it is one.
-fn keep_to_files(rt: &HostRuntime, path: &str) -> Result<(), Failure>
+pub(crate) fn keep_to_files(rt: &HostRuntime, path: &str) -> Result<(), Failure>
     ensures fault { IfErr result (λ failure. IsMeant ends.File failure.fault) }
     ensures named { IfErr result (IsNamed path.now) }
 {
@@ -357,11 +362,12 @@ fn missing(alloc: Global, path: &str) -> Failure
     Failure::at(alloc, Fault::File, path, Whereabouts::Open, &MISSING)
 }
 
-/// Prints how many records the journal on the disk has, behind what the settings say; or both as
-/// one object of JSON.
+/// Prints how many records the journal of that header on the disk has, behind what the settings
+/// say; or both as one object of JSON.
 fn print_records<D: Disk>(
     rt: &HostRuntime,
     settings: &Settings,
+    header: &Header,
     disk: &mut D,
     json: bool,
 ) -> Result<u8, DumpFault>
@@ -369,9 +375,9 @@ fn print_records<D: Disk>(
 {
     let mut output = io::writer(rt);
     if json {
-        print_check(rt.alloc(), settings, disk, &mut output)
+        print_check(rt.alloc(), settings, header, disk, &mut output)
     } else {
-        check_journal(rt.alloc(), &settings.header, disk, &mut output)
+        check_journal(rt.alloc(), header, disk, &mut output)
     }
 }
 
@@ -543,15 +549,14 @@ fn needed(found: JournalFault, length: u64) -> Option<u64> {
     }
 }
 
-/// The bytes of the file, or so many of them, which is opened for reading and writing as `run` does
-/// it. No lock is taken, and nothing written. A device has no length, so none of it is read; a
-/// journal's disk sees it so too.
+/// The bytes of the file to its end, or so many of them, which is opened for reading and writing as
+/// `run` does it. No lock is taken, and nothing written. The file may grow meanwhile: a batch is
+/// written before its gate is opened, so who has read an open gate finds the batch behind it.
 fn read_unlocked(rt: &HostRuntime, path: &str, most: u64) -> io::Result<Vec<u8>> {
     let mut options = OpenOptions::new();
     let file = options.read(true).write(true).open(rt, path)?;
-    let length = file.metadata()?.len();
     let mut bytes = Vec::new(rt.alloc());
-    file.take(length.min(most)).read_to_end(&mut bytes)?;
+    file.take(most).read_to_end(&mut bytes)?;
     Ok(bytes)
 }
 

@@ -19,7 +19,10 @@ pub use chance::{Measuring, measure_rounds};
 pub use cluster::{NewCluster, new_cluster};
 pub use commands::{Choice, PagePaths};
 pub use doors::{Door, foreign_words, own_door};
-pub use epoch_files::{Span, epoch_path, epochs_in, is_missing, look_into, make_journal};
+pub use epoch_files::{
+    Span, epoch_header, epoch_path, epochs_in, is_missing, lock_folder, look_into, make_journal,
+    refuse_forgotten_in,
+};
 pub use files::{
     Purpose, Source, audit_file, check_file, dump_file, failure_for, first_error_in, hear_input,
     init_file, migrate_file, open_good_disk, read_settings, simulate_file,

@@ -1,5 +1,5 @@
 -- Where the members of the settings are dialled.
-use Rattle.std.specs.Prelude.{ℕ, ◌==◌, ◌&&◌, Bool, true, false, Option, Some, None, List, [], ◌∷◌, length, nat_lt, slice_set, if◌then◌else◌}
+use Rattle.std.specs.Prelude.{ℕ, ◌==◌, ◌&&◌, Bool, true, false, Option, Some, None, List, [], ◌∷◌, length, nat_lt, slice_get, slice_set, if◌then◌else◌}
 use Rattle.settings.specs.declared.address.Address.{Address}
 
 -- these four numbers are those of a host that stands for all of a machine's own addresses
@@ -11,7 +11,17 @@ everywhere octets = false
 abbrev pub own_address : Address → Address
 own_address listen = if everywhere listen.octets then record { octets = 127 ∷ 0 ∷ 0 ∷ 1 ∷ []; port = listen.port } else listen
 
--- where the members are dialled: at their entries of the peers, the own one at what it listens at where that is said
+-- the peers, the own entry where the member dials itself
+abbrev pub with_own : List Address → Address → ℕ → List Address
+with_own peers listen me = if nat_lt me (length peers) then slice_set peers me (own_address listen) else peers
+
+-- the same, if there is an address where the member listens
+abbrev pub with_known : List Address → Option Address → ℕ → List Address
+with_known peers (Some listen) me = with_own peers listen me
+with_known peers None me = peers
+
+-- where the members are dialled: at their entries of the peers, the own one where the member listens: at `listen` where that is said,
+-- and else at its entry
 abbrev pub dialled : List Address → Option Address → ℕ → List Address
-dialled peers None me = peers
-dialled peers (Some listen) me = if nat_lt me (length peers) then slice_set peers me (own_address listen) else peers
+dialled peers (Some listen) me = with_own peers listen me
+dialled peers None me = with_known peers (slice_get peers me) me

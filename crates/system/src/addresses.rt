@@ -1,10 +1,10 @@
 //! The addresses of a member's sockets, by its settings.
 
 ghost use Rattle.asking.specs.Sockets.{AreSocketsOf, IsSocketOf};
-ghost use Rattle.system.specs.Dialled.{dialled, everywhere, own_address};
+ghost use Rattle.system.specs.Dialled.{dialled, everywhere, own_address, with_known, with_own};
 ghost use Rattle.running.specs.declared.hosts.Hosts.TheVariants as hosts;
 ghost use Rattle.settings.specs.declared.address.Address.{Address as AddressOf};
-ghost use Rattle.std.specs.Prelude.{◌≡◌, true, false, None, Some, IfOk, IfSome, if◌then◌else◌, length, nat_lt, slice_set};
+ghost use Rattle.std.specs.Prelude.{◌≡◌, true, false, None, Some, IfOk, IfSome, slice_get};
 
 use asking::{socket_address, socket_addresses};
 use running::{Addresses, Hosts};
@@ -63,31 +63,42 @@ pub(crate) fn addresses_of(
     })
 }
 
-/// Returns the addresses at which the members are dialled: their entries of the peers; and for the
-/// own one the address of `listen`, if that is given.
-fn dialled(alloc: Global, settings: &Settings) -> Result<Vec<Address>, Memory>
+/// Returns the addresses at which the members are dialled: their entries of the peers; for the own
+/// one the address of `listen`, if that is given, and 127.0.0.1 if it listens at all addresses.
+pub(crate) fn dialled(alloc: Global, settings: &Settings) -> Result<Vec<Address>, Memory>
     ensures { IfOk result
         (λ it. it.items ≡ dialled settings.now.peers.items settings.now.listen
         settings.now.header.me) }
 {
+    let (peers, me) = (settings.peers.as_slice(), settings.header.me());
     match &settings.listen {
-        Some(listen) => {
-            let me = settings.header.me();
-            with_own(alloc, &settings.peers, me, own_address(listen))
-        }
+        Some(listen) => with_own(alloc, peers, me, listen),
+        None => with_entry(alloc, peers, me),
+    }
+}
+
+/// These addresses, with that at which a member dials itself that listens at its own entry.
+fn with_entry(alloc: Global, peers: &[Address], me: u8) -> Result<Vec<Address>, Memory>
+    ensures { IfOk result (λ it. it.items ≡ with_known peers.now (slice_get peers.now me) me) }
+{
+    match peers.get(usize::from(me)) {
+        Some(own) => with_own(alloc, peers, me, own),
         None => {
             let mut all = Vec::new(alloc);
-            all.extend_from_slice(&settings.peers)?;
+            all.extend_from_slice(peers)?;
             Ok(all)
         }
     }
 }
 
-/// These addresses, with another at that place.
-fn with_own(alloc: Global, peers: &[Address], me: u8, own: Address) -> Result<Vec<Address>, Memory>
-    ensures { IfOk result
-        (λ it. it.items ≡ (if nat_lt me (length peers.now) then slice_set peers.now me own else
-        peers.now)) }
+/// These addresses, with that at which a member dials itself that listens there at its place.
+fn with_own(
+    alloc: Global,
+    peers: &[Address],
+    me: u8,
+    listen: &Address,
+) -> Result<Vec<Address>, Memory>
+    ensures { IfOk result (λ it. it.items ≡ with_own peers.now listen.now me) }
 {
     let mut all = Vec::new(alloc);
     all.extend_from_slice(peers)?;
@@ -95,7 +106,7 @@ fn with_own(alloc: Global, peers: &[Address], me: u8, own: Address) -> Result<Ve
     if me >= all.len() {
         return Ok(all);
     }
-    all[me] = own;
+    all[me] = own_address(listen);
     Ok(all)
 }
 

@@ -4,19 +4,20 @@ ghost use Rattle.member.specs.Sound.{HasItsFile, IsSound};
 ghost use Rattle.member.specs.Readers.{member_saved, member_is_stopped, MemberStandsFor};
 ghost use Rattle.std.specs.Prelude.{◌≡◌, [], false};
 
-use crate::addresses::addresses_of;
-use crate::live::{Console, open_to_run, told_of_stop};
+use crate::addresses::{addresses_of, dialled};
+use crate::live::{Console, GONE, open_to_run, told_of_stop, trouble_of_threads};
 use crate::log::{ErrorLog, LogForm};
 use asking::socket_address;
 use chain::{Chain, seed_of};
 use disk::{Disk, Premise};
-use epochs::{Doors, Switchboard, Verdicts};
+use epochs::{Doors, Halt, Switchboard, Verdicts};
 use files::{
-    Purpose, Source, Span, epoch_path, epochs_in, is_missing, look_into, make_journal,
-    open_good_disk, own_links, put_aside, refuse_forgotten,
+    Purpose, Source, Span, epoch_header, epoch_path, epochs_in, is_missing, look_into,
+    make_journal, open_good_disk, own_links, put_aside, refuse_forgotten, refuse_forgotten_in,
 };
 use machine::{Machine, RunFault};
 use member::Member;
+use process::Watched;
 use running::{Addresses, Fronts, InChain, Operator, Start, run_fronts, run_member};
 use settings::Settings;
 use std::alloc::{AllocError, Global};
@@ -28,7 +29,7 @@ use std::sync::{Arc, Mutex, Wait};
 use std::time::Duration;
 use std::{io, thread};
 use terms::{Header, Memory};
-use troubles::{Failure, Fault, Whereabouts};
+use troubles::{Failure, Fault, Trouble, Whereabouts, trouble_of};
 
 /// The things that the epochs of a process were given.
 #[derive(Drop)]
@@ -76,7 +77,10 @@ impl Chained<'_> {
             return Ok(Verdicts::gone(self.host.alloc()));
         }
         self.run_at::<R, Brand>(rt, &epoch, doors)?;
-        look_into(&self.host, path.as_str(), &header)
+        match look_into(&self.host, path.as_str(), &header) {
+            Err(_) if self.is_put_away(rt, &epoch) => Ok(Verdicts::gone(self.host.alloc())),
+            found => found,
+        }
     }
 
     /// Returns `true` if the journal of an epoch behind the newest was put away while the process
@@ -102,10 +106,7 @@ impl Chained<'_> {
         let addresses = self
             .addresses_at(epoch.number, doors)
             .map_err(|_| Fault::Memory)?;
-        match self.run_opened(rt, epoch.number, &source, member, addresses) {
-            Ok(()) => Ok(()),
-            Err(fault) => Err(self.failure_of(epoch, &source, fault)),
-        }
+        self.run_opened(rt, epoch, &source, member, addresses)
     }
 
     /// Makes the journals of the epochs up to this one that have none, one after the other.
@@ -143,11 +144,11 @@ impl Chained<'_> {
     fn run_opened<R: Machine, D: Disk + Drop + Send>(
         &self,
         rt: &R,
-        epoch: u64,
+        epoch: &Epoch<'_>,
         source: &Source<'_>,
         member: Member<D>,
         addresses: Addresses,
-    ) -> Result<(), RunFault>
+    ) -> Result<(), Failure>
         requires sound { IsSound D.Disk member }
         requires fresh { member_is_stopped member ≡ false →
             MemberStandsFor member (member_saved member) [] }
@@ -162,32 +163,41 @@ impl Chained<'_> {
             form: self.form,
             stopped: &stopped,
             first_error: source.shared_error(),
-            epoch: Some(epoch),
+            epoch: Some(epoch.number),
         });
         let mut operator = EpochOperator {
             rt,
+            host: &self.host,
             board: &self.board,
-            epoch,
+            epoch: epoch.number,
             seed: &self.settings.seed,
+            journal: Watched::new(&self.host, epoch.path),
             stopped: &stopped,
+            trouble: None,
         };
         let start = Start {
             member,
             addresses,
-            seed: seed_of(&self.settings.seed, epoch),
+            seed: seed_of(&self.settings.seed, epoch.number),
         };
         match run_member(rt, alloc, start, &mut operator, Some(&lines)) {
             Ok(_) => Ok(()),
-            Err(fault) => Err(fault),
+            Err(fault) => Err(self.failure_of(epoch, source, fault, operator.trouble.take())),
         }
     }
 
-    /// Returns the failure of an epoch whose run ended so.
-    fn failure_of(&self, epoch: &Epoch<'_>, source: &Source<'_>, fault: RunFault) -> Failure {
+    /// Returns the failure of an epoch whose run ended so, and of which its operator was told that.
+    fn failure_of(
+        &self,
+        epoch: &Epoch<'_>,
+        source: &Source<'_>,
+        fault: RunFault,
+        told: Option<Trouble>,
+    ) -> Failure {
         let trouble = match fault {
-            RunFault::Stopped => told_of_stop(self.host.alloc(), source, None),
+            RunFault::Stopped => told_of_stop(self.host.alloc(), source, told),
             RunFault::Forgotten => put_aside(&self.host, epoch.path, epoch.header.me()),
-            RunFault::Listen | RunFault::Memory | RunFault::Stream | RunFault::Torn => None,
+            RunFault::Listen | RunFault::Memory | RunFault::Stream | RunFault::Torn => told,
         };
         Failure {
             fault: Fault::Run(fault),
@@ -207,6 +217,7 @@ impl Chained<'_> {
 
     /// Adds the epochs whose journals are there, and those before them, which were put away.
     fn find_epochs<R: Machine>(&self, rt: &R) -> Result<(), Failure> {
+        refuse_forgotten_in(&self.host, self.folder, self.settings.header.me())?;
         let Span { first, last } = epochs_in(&self.host, self.folder)?;
         for epoch in 0..last.saturating_add(1) {
             let verdicts = if epoch < first {
@@ -229,23 +240,7 @@ impl Chained<'_> {
 
     /// Returns the header of an epoch's journal.
     fn header(&self, epoch: u64) -> Result<Header, Failure> {
-        let own = self.settings.header;
-        match self.board.chain().cluster_of(epoch) {
-            Some(cluster) => match Header::new(cluster, own.size(), own.me()) {
-                Some(header) => Ok(header),
-                None => Err(Failure::from(Fault::Memory)),
-            },
-            None => {
-                let words = "the chain has come to its last cluster number";
-                Err(Failure::at(
-                    self.host.alloc(),
-                    Fault::File,
-                    self.folder,
-                    Whereabouts::Whole,
-                    &words,
-                ))
-            }
-        }
+        epoch_header(&self.host, self.settings, self.folder, epoch)
     }
 }
 
@@ -257,15 +252,27 @@ struct Epoch<'a> {
     header: Header,
 }
 
-/// The operator of an epoch: it ends once it isn't needed.
+/// The operator of an epoch: it ends once it isn't needed, and in any case once its journal is
+/// gone.
 #[derive(Drop)]
 struct EpochOperator<'a, R> {
     rt: &'a R,
+    host: &'a HostRuntime,
     board: &'a Switchboard,
     epoch: u64,
     seed: &'a [u8; 32],
+    /// The journal's file.
+    journal: Watched<'a>,
     /// Set once the member is stopped, which ends it.
     stopped: &'a AtomicBool,
+    /// The trouble of a journal that is gone.
+    trouble: Option<Trouble>,
+}
+
+impl<R: Machine> Halt for EpochOperator<'_, R> {
+    fn is_due(&self) -> bool {
+        self.stopped.load(Ordering::SeqCst) || self.journal.is_replaced(self.host)
+    }
 }
 
 impl<R: Machine> Operator for EpochOperator<'_, R> {
@@ -283,8 +290,22 @@ impl<R: Machine> Operator for EpochOperator<'_, R> {
     }
 
     fn until_end(&mut self) -> Result<(), RunFault> {
-        self.board.await_end(self.rt, self.epoch, self.stopped);
-        Ok(())
+        self.board.await_end(self.rt, self.epoch, &*self);
+        if !self.journal.is_replaced(self.host) {
+            return Ok(());
+        }
+        let path = self.journal.path();
+        let is_behind = self.epoch < self.board.newest(self.rt);
+        if is_behind && is_missing(self.host, path) {
+            // The journal was put away.
+            return Ok(());
+        }
+        self.trouble = trouble_of(self.host.alloc(), path, Whereabouts::Whole, &GONE);
+        Err(RunFault::Stopped)
+    }
+
+    fn unstarted(&mut self) {
+        self.trouble = trouble_of_threads(self.host.alloc());
     }
 }
 
@@ -361,17 +382,17 @@ fn fronts_of(
     })
 }
 
-/// The hosts of the members; none if links are taken from any host.
+/// The hosts of the members, at which they are dialled; none if links are taken from any host.
 fn hosts_of(
     alloc: Global,
     settings: &Settings,
     any_host: bool,
-) -> Result<Option<Vec<IpAddr>>, AllocError> {
+) -> Result<Option<Vec<IpAddr>>, Memory> {
     if any_host {
         return Ok(None);
     }
     let mut hosts = Vec::new(alloc);
-    for peer in &settings.peers {
+    for peer in &dialled(alloc, settings)? {
         hosts.push(IpAddr::from(peer.octets))?;
     }
     Ok(Some(hosts))
@@ -390,6 +411,7 @@ fn run_all<R: Machine>(
     let run = thread::scope(thread::scope_env(), rt, |scope| -> Result<(), RunFault> {
         let opens = move || open_doors(rt, it, fronts, unheard, doors);
         if scope.spawn(opens).is_err() {
+            console.unstarted();
             return Err(RunFault::Memory);
         }
         run_epochs(rt, it, console)
@@ -465,6 +487,7 @@ fn run_epochs<R: Machine>(
             match next_step(rt, it, console, turn) {
                 Step::Run(epoch, doors) => {
                     if scope.spawn(move || it.run_epoch(rt, epoch, doors)).is_err() {
+                        console.unstarted();
                         it.board.end(rt);
                         return Err(RunFault::Memory);
                     }

@@ -16,8 +16,8 @@ use crate::log::{ErrorLog, LogForm};
 use asking::socket_address;
 use disk::{Disk, Premise};
 use files::{
-    Door, Purpose, Source, failure_for, foreign_words, open_good_disk, own_door, put_aside,
-    read_settings, refuse_forgotten, remove_old_mark,
+    Door, Purpose, Source, failure_for, foreign_words, lock_folder, open_good_disk, own_door,
+    put_aside, read_settings, refuse_forgotten, remove_old_mark,
 };
 use machine::{Machine, RunFault};
 use member::Member;
@@ -38,7 +38,7 @@ use terms::Header;
 use troubles::{Failure, Fault, Trouble, Whereabouts, trouble_of};
 
 /// The words on a journal that is gone.
-const GONE: &str = "the file was removed or replaced while the member ran";
+pub(crate) const GONE: &str = "the file was removed or replaced while the member ran";
 
 /// The standard streams of a member that runs: it prints that it is ready, and ends where the input
 /// does; or, where it stays, once it is stopped. Where signals are blocked it ends once one waits,
@@ -181,9 +181,14 @@ impl<'a> Operator for Console<'a> {
     }
 
     fn unstarted(&mut self) {
-        let words = "the system refused one: see `ulimit -u`";
-        self.trouble = trouble_of(self.host.alloc(), "threads", Whereabouts::Whole, &words);
+        self.trouble = trouble_of_threads(self.host.alloc());
     }
+}
+
+/// Returns what is told of a thread that the system refused.
+pub(crate) fn trouble_of_threads(alloc: Global) -> Option<Trouble> {
+    let words = "the system refused one: see `ulimit -u`";
+    trouble_of(alloc, "threads", Whereabouts::Whole, &words)
 }
 
 /// The options of the command `run`.
@@ -276,7 +281,10 @@ fn run_epochs<R: Machine>(
     if order.any_host {
         warn_of_strangers(host);
     }
+    warn_of_files(host, most_files(host), order.settings.header.size().n());
     let settings = order.settings;
+    // Another process would take the same journals.
+    let _held = lock_folder(host, order.folder)?;
     let local = match &settings.desk_socket {
         Some(path) => Some(listen_locally(host, path.as_str())?),
         None => None,
