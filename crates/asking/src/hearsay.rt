@@ -12,9 +12,9 @@ use terms::Size;
 use transcripts::audit_text;
 use troubles::{Failure, Fault};
 
-/// Prints the first transcript of the question that a member of the cluster sends, and says on
-/// standard error whose it is. The status is 0; 1 where none sends one, and then standard error
-/// says what each sent.
+/// Prints the first transcript that a member of the cluster sends and that is proof of the
+/// question's decision, and says on standard error whose it is, and what others sent before. The
+/// status is 0; 1 where none sends one.
 pub fn transcript_of_all<R: Caller>(
     rt: &R,
     host: &HostRuntime,
@@ -31,7 +31,7 @@ pub fn transcript_of_all<R: Caller>(
         let Some(news) = calls.next(rt, host) else {
             break;
         };
-        if print_first(host, &news, question)? {
+        if print_first(host, &news, question, client.size)? {
             return Ok(0);
         }
         known |= members_of(&news);
@@ -40,16 +40,21 @@ pub fn transcript_of_all<R: Caller>(
     Ok(1)
 }
 
-/// Prints the first transcript of the question among these; true where there is one. Standard error
-/// says what the members before it sent.
-fn print_first(host: &HostRuntime, news: &[News], question: u16) -> Result<bool, Failure> {
+/// Prints the first of these that is proof of the question's decision; true where there is one.
+/// Standard error says what the members before it sent.
+fn print_first(
+    host: &HostRuntime,
+    news: &[News],
+    question: u16,
+    size: Size,
+) -> Result<bool, Failure> {
     for one in news {
-        match bit_of(host.alloc(), one, question)? {
-            Some(bit) => {
+        match worth_of(host.alloc(), one, question, size)? {
+            Worth::Proof(bit) => {
                 print_transcript(host, one, bit)?;
                 return Ok(true);
             }
-            None => tell_none(host, one),
+            worth => tell_worth(host, one, worth),
         }
     }
     Ok(false)
