@@ -262,9 +262,13 @@ impl Book {
         }
     }
 
-    /// Notes the state of a member's desk.
+    /// Notes the state of a member's desk. Nothing is known of the links of one that isn't up.
     pub(crate) fn set_state(&mut self, member: u8, state: MemberState) {
         if let Some(view) = self.views.get_mut(usize::from(member)) {
+            if state != MemberState::Up {
+                view.coming = 0;
+                view.going = 0;
+            }
             if view.state != state {
                 view.state = state;
                 self.note(Event::Member { member, state });
@@ -303,7 +307,11 @@ impl Book {
         let (first, end) = self.window();
         let mut waiting: u64 = 0;
         for question in first..end {
-            if self.standing(question) == Standing::Proposed {
+            // A question that is spent may still be decided.
+            if matches!(
+                self.standing(question),
+                Standing::Proposed | Standing::Spent
+            ) {
                 waiting = waiting.saturating_add(1);
             }
         }
