@@ -8,7 +8,7 @@ pub(crate) const LIVE: &str = "<!DOCTYPE html>\n\
 <meta name=\"viewport\" content=\"width=device-width, initial-scale=1\">\n\
 <meta name=\"color-scheme\" content=\"light dark\">\n\
 <meta name=\"referrer\" content=\"no-referrer\">\n\
-<meta http-equiv=\"Content-Security-Policy\" content=\"default-src 'none'; connect-src 'self'; script-src 'sha256-81atW9js23PBRyCpSDdQ3aKiKfOY30nBc87M7BdTPTg='; style-src 'sha256-XVniBvl1O6+WLDxC9FTeWsTryPkTksJimd839yo/5Fs='; img-src data:; base-uri 'none'; form-action 'none'; require-trusted-types-for 'script'; trusted-types 'none'\">\n\
+<meta http-equiv=\"Content-Security-Policy\" content=\"default-src 'none'; connect-src 'self'; script-src 'sha256-hFKZ+Xyy5zDAqu3jgo2avE6TXrEDxfmaRAvJjSoEluU='; style-src 'sha256-XVniBvl1O6+WLDxC9FTeWsTryPkTksJimd839yo/5Fs='; img-src data:; base-uri 'none'; form-action 'none'; require-trusted-types-for 'script'; trusted-types 'none'\">\n\
 <link rel=\"icon\" href=\"data:,\">\n\
 <title>bracha cluster</title>\n\
 <style>\n\
@@ -129,7 +129,7 @@ abbr { text-decoration: none; }\n\
 \x20\x20<div id=\"gone\" class=\"banner\" role=\"alert\" hidden></div>\n\
 \x20\x20<div id=\"short\" class=\"banner warn\" role=\"status\" hidden></div>\n\
 \x20\x20<div class=\"tiles\">\n\
-\x20\x20\x20\x20<div class=\"tile\"><span class=\"name\">Members reachable</span><b id=\"nup\">–</b></div>\n\
+\x20\x20\x20\x20<div class=\"tile\"><span class=\"name\">Members up</span><b id=\"nup\">–</b></div>\n\
 \x20\x20\x20\x20<div class=\"tile\"><span class=\"name\">Decided</span><b id=\"ndec\">–</b></div>\n\
 \x20\x20\x20\x20<div class=\"tile\"><span class=\"name\">Proposed, open</span><b id=\"nopen\">–</b></div>\n\
 \x20\x20\x20\x20<div class=\"tile\"><span class=\"name\">Unproposed</span><b id=\"nfree\">–</b></div>\n\
@@ -143,7 +143,7 @@ abbr { text-decoration: none; }\n\
 \x20\x20\x20\x20<div id=\"ring\" aria-hidden=\"true\"></div>\n\
 \x20\x20\x20\x20<p class=\"soft\" id=\"ringsays\"></p>\n\
 \x20\x20\x20\x20<div class=\"scroll\" tabindex=\"0\" role=\"region\" aria-label=\"Table of the members\"><table aria-label=\"Members\">\n\
-\x20\x20\x20\x20\x20\x20<thead><tr><th scope=\"col\"><abbr title=\"Member\">No.</abbr></th><th scope=\"col\">State</th><th scope=\"col\">In</th><th scope=\"col\">Out</th><th scope=\"col\"><abbr title=\"Statements that it said\">State<span class=\"den\">ments</span><span class=\"nar\">m.</span></abbr></th><th scope=\"col\"><abbr title=\"Decided\">Dec<span class=\"den\">ided</span><span class=\"nar\">.</span></abbr></th><th scope=\"col\"><abbr title=\"Questions on which it says otherwise than t + 1 others\">Contra<span class=\"more\">dicts</span></abbr></th></tr></thead>\n\
+\x20\x20\x20\x20\x20\x20<thead><tr><th scope=\"col\"><abbr title=\"Member\">No.</abbr></th><th scope=\"col\">State</th><th scope=\"col\">In</th><th scope=\"col\">Out</th><th scope=\"col\"><abbr id=\"saidby\" title=\"Statements that it said\">State<span class=\"den\">ments</span><span class=\"nar\">m.</span></abbr></th><th scope=\"col\"><abbr id=\"decidedby\" title=\"Questions that it decided\">Dec<span class=\"den\">ided</span><span class=\"nar\">.</span></abbr></th><th scope=\"col\"><abbr title=\"Questions on which it says otherwise than t + 1 others\">Contra<span class=\"more\">dicts</span></abbr></th></tr></thead>\n\
 \x20\x20\x20\x20\x20\x20<tbody id=\"members\"></tbody></table></div>\n\
 \x20\x20</section>\n\
 \x20\x20<section class=\"card\" aria-labelledby=\"qname\">\n\
@@ -208,7 +208,8 @@ const feed = { queue: [], dropped: 0 };\n\
 async function get(path) {\n\
 \x20\x20const answer = await fetch(path, { headers: { Accept: \"application/json\" }, cache: \"no-store\", signal: AbortSignal.timeout(8000) });\n\
 \x20\x20if (!answer.ok) throw new Error(\"status \" + answer.status);\n\
-\x20\x20return answer.json();\n\
+\x20\x20// A cluster's number may be above 2^53, so it is kept as text.\n\
+\x20\x20return JSON.parse((await answer.text()).replace(/^\\{\"cluster\":(\\d+)/, '{\"cluster\":\"$1\"'));\n\
 }\n\
 function alive() {\n\
 \x20\x20heardAt = Date.now(); tries = 0;\n\
@@ -235,7 +236,9 @@ async function pollMembers() {\n\
 \x20\x20\x20\x20const other = r.n !== n || r.questions !== E || r.cluster !== cluster || chain !== (r.chain === true);\n\
 \x20\x20\x20\x20cluster = r.cluster; n = r.n; t = r.t; propose = r.propose; E = r.questions; chain = r.chain === true;\n\
 \x20\x20\x20\x20members = r.members.filter((m) => whole(m.member, n - 1)).slice(0, 64);\n\
-\x20\x20\x20\x20if (other) await load();\n\
+\x20\x20\x20\x20const silent = source && Date.now() - told > 15000;      // a stream that is open has a beat every five seconds\n\
+\x20\x20\x20\x20if (silent) { source.close(); source = null; }\n\
+\x20\x20\x20\x20if (other || silent) await load();\n\
 \x20\x20\x20\x20if (lost && Date.now() - lost > 6000) gone(\"its stream doesn't come back\"); else alive();\n\
 \x20\x20\x20\x20showMembers();\n\
 \x20\x20\x20\x20if (!source && !resting) follow();\n\
@@ -243,13 +246,15 @@ async function pollMembers() {\n\
 \x20\x20clearTimeout(pollAt);\n\
 \x20\x20pollAt = setTimeout(pollMembers, goneAt ? Math.min(10000, 1000 * 1.6 ** Math.min(6, tries)) : 2000);\n\
 }\n\
-let cluster = null, propose = \"token\", pollAt = 0, lost = 0;   // lost: since when the stream is away\n\
+let cluster = null, propose = \"token\", pollAt = 0;\n\
+// When the stream went away, when it was opened or told something last, and how far our clock is ahead of the gateway's.\n\
+let lost = 0, told = 0, skew = Infinity;\n\
 function reason(fault) { return fault.name === \"TimeoutError\" ? \"no answer in time\" : fault instanceof TypeError ? \"no connection\" : String(fault.message).slice(0, 80); }\n\
 async function load() {\n\
 \x20\x20const r = await get(\"v1/questions\" + (chain ? \"\" : \"?from=0&to=\" + E)), before = F;\n\
 \x20\x20if (!whole(r.from, MOST) || !whole(r.to, MOST) || typeof r.states !== \"string\" || r.states.length > 65536 || r.states.length !== r.to - r.from || /[^\\-p01x]/.test(r.states)) throw new Error(\"not the states of the questions\");\n\
 \x20\x20F = r.from; Q = r.states.length; states = Array.from(r.states); life = String(r.life); after = r.after;\n\
-\x20\x20fresh.clear(); dirty.clear();\n\
+\x20\x20fresh.clear(); dirty.clear(); skew = Infinity;\n\
 \x20\x20tally = { \"-\": 0, p: 0, 0: 0, 1: 0, x: 0 };\n\
 \x20\x20for (const s of states) tally[s]++;\n\
 \x20\x20if (Array.isArray(r.lately)) { const now = Math.floor(Date.now() / 1000); r.lately.slice(-60).forEach((c, i, all) => { if (whole(c, 1e6)) perSecond.set(now - all.length + i, c); }); }\n\
@@ -271,18 +276,22 @@ function placed(d) {\n\
 function follow() {\n\
 \x20\x20if (source) source.close();\n\
 \x20\x20source = new EventSource(\"v1/decisions?after=\" + encodeURIComponent(life + \".\" + after));\n\
+\x20\x20told = Date.now();\n\
 \x20\x20const on = (name, act) => source.addEventListener(name, (e) => {\n\
 \x20\x20\x20\x20let d;\n\
 \x20\x20\x20\x20try { d = JSON.parse(e.data); } catch (fault) { return; }\n\
 \x20\x20\x20\x20const k = Number(String(e.lastEventId).split(\".\")[1]);      // events of all kinds are numbered, so one that comes back misses none\n\
 \x20\x20\x20\x20if (Number.isInteger(k)) after = k;\n\
 \x20\x20\x20\x20alive();\n\
+\x20\x20\x20\x20told = Date.now();\n\
 \x20\x20\x20\x20act(d);\n\
 \x20\x20});\n\
 \x20\x20on(\"decision\", (d) => {\n\
 \x20\x20\x20\x20const q = placed(d);\n\
 \x20\x20\x20\x20if (q < 0 || (d.bit !== 0 && d.bit !== 1)) return;\n\
-\x20\x20\x20\x20const at = whole(d.time, 1e14) ? d.time : Date.now(), second = Math.floor(Date.now() / 1000);\n\
+\x20\x20\x20\x20const now = Date.now(), timed = whole(d.time, 1e14), at = timed ? d.time : now;\n\
+\x20\x20\x20\x20if (timed) skew = Math.min(skew, now - at);              // one that comes late is counted in the second in which it was decided\n\
+\x20\x20\x20\x20const second = Math.floor((timed ? at + skew : now) / 1000);\n\
 \x20\x20\x20\x20perSecond.set(second, (perSecond.get(second) || 0) + 1);\n\
 \x20\x20\x20\x20set(q, String(d.bit)); fresh.set(q, performance.now());\n\
 \x20\x20\x20\x20line(String(d.bit), String(d.bit), \"question \" + d.question + \" is decided: \" + d.bit + (whole(d.ms, 1e9) ? \", after \" + num(d.ms) + \" ms\" : \"\"), at);\n\
@@ -292,7 +301,7 @@ function follow() {\n\
 \x20\x20on(\"member\", (d) => { if (whole(d.member, n - 1)) { clearTimeout(pollAt); pollAt = setTimeout(pollMembers, 150); line(d.state === \"up\" ? \"g\" : \"b\", d.state === \"up\" ? \"\\u2713\" : \"\\u2715\", \"member \" + d.member + \" is \" + stateWord(d.state)); } });\n\
 \x20\x20on(\"contradiction\", (d) => { if (whole(d.member, n - 1) && whole(d.question, MOST) && (d.says === 0 || d.says === 1)) line(\"b\", \"!\", \"member \" + d.member + \" says \" + (d.says === 0 ? 0 : 1) + \" on question \" + d.question + \", more than \" + others() + \" say \" + (d.says === 0 ? 1 : 0)); });\n\
 \x20\x20on(\"restarted\", async () => { line(\"g\", \"\\u21bb\", \"the gateway was started anew\"); await again(); });\n\
-\x20\x20on(\"beat\", () => {});\n\
+\x20\x20on(\"beat\", (d) => { if (whole(d.time, 1e14)) skew = Date.now() - d.time; });\n\
 \x20\x20source.onopen = () => { lost = 0; };\n\
 \x20\x20source.onerror = () => { lost = lost || Date.now(); if (source && source.readyState === EventSource.CLOSED) source = null; };\n\
 }\n\
@@ -445,8 +454,10 @@ function showMembers() {\n\
 \x20\x20$(\"nup\").textContent = up + \" of \" + n;\n\
 \x20\x20$(\"name\").textContent = \"bracha cluster\" + (cluster === null || cluster === undefined ? \"\" : \" \" + String(cluster).slice(0, 20));\n\
 \x20\x20$(\"size\").textContent = n + \" members, at most \" + t + (t === 1 ? \" lies, \" : \" lie, \") + (chain ? \"a chain: questions \" + num(F) + \" to \" + num(F + Q - 1) : num(Q) + \" questions\");\n\
+\x20\x20const newest = chain ? \" in the newest epoch\" : \"\";\n\
+\x20\x20$(\"saidby\").title = \"Statements that it said\" + newest; $(\"decidedby\").title = \"Questions that it decided\" + newest;\n\
 \x20\x20$(\"short\").hidden = up >= want;\n\
-\x20\x20if (up < want) $(\"short\").textContent = \"Only \" + up + \" of \" + n + \" members are reachable from the gateway; \" + want + \" are needed. Nothing new may be decided until more are.\";\n\
+\x20\x20if (up < want) $(\"short\").textContent = \"Only \" + up + \" of \" + n + \" members are up and reachable from the gateway; \" + want + \" are needed. Nothing new may be decided until more are.\";\n\
 \x20\x20const liars = members.filter((m) => Array.isArray(m.contradicts) ? m.contradicts.length : m.contradicts > 0);\n\
 \x20\x20const rows = members.map((m) => {\n\
 \x20\x20\x20\x20const c = Array.isArray(m.contradicts) ? m.contradicts.length : whole(m.contradicts, 4096) ? m.contradicts : 0, s = m.state;\n\
@@ -459,7 +470,7 @@ function showMembers() {\n\
 \x20\x20});\n\
 \x20\x20$(\"members\").replaceChildren(...rows);\n\
 \x20\x20$(\"ringsays\").replaceChildren(liars.length ? el(\"span\", { class: \"bad\" }, \"Contradicted by more than \" + others() + \": member \" + ranges(liars.map((m) => m.member)) + \". \") : \"No member contradicts the others. \",\n\
-\x20\x20\x20\x20\"Left arc: links in; right arc: links out; full is \" + n + \".\" + (members.some((m) => Array.isArray(m.down_out)) ? \" Dashed: a link that is down.\" : \"\"));\n\
+\x20\x20\x20\x20\"Left arc: links in; right arc: links out; full is \" + n + \".\");\n\
 \x20\x20ring(); title();\n\
 }\n\
 function title() { document.title = (goneAt ? \"\\u2715 gone\" : (members.filter((m) => m.state === \"up\").length + \"/\" + n)) + \" \\u2013 bracha cluster \" + (cluster ?? \"\"); }\n\
@@ -467,18 +478,6 @@ function ring() {\n\
 \x20\x20const W = Math.max(260, $(\"ring\").clientWidth), H = n > 16 ? Math.min(W, 460) : Math.min(W, 300);\n\
 \x20\x20const R = Math.min(W, H) / 2 - (n > 24 ? 26 : 34), r = Math.max(4.5, Math.min(22, Math.PI * R / n * 0.6)), label = r > 7;\n\
 \x20\x20const svg = sv(\"svg\", { width: W, height: H, viewBox: `0 0 ${W} ${H}` }), at = (m) => { const a = -Math.PI / 2 + 2 * Math.PI * m / n; return [W / 2 + R * Math.cos(a), H / 2 + R * Math.sin(a), a]; };\n\
-\x20\x20let lines = 0;\n\
-\x20\x20const cut = sv(\"g\", { stroke: \"var(--bad)\", \"stroke-width\": 1.6, \"stroke-dasharray\": \"5 4\", fill: \"none\" });\n\
-\x20\x20for (const m of members) for (const p of Array.isArray(m.down_out) ? m.down_out : []) {\n\
-\x20\x20\x20\x20if (!whole(p, n - 1) || p === m.member || m.state !== \"up\" || lines > 400) continue;\n\
-\x20\x20\x20\x20const other = members.find((x) => x.member === p);\n\
-\x20\x20\x20\x20if (other && other.state !== \"up\" && picked !== m.member) continue;      // of one that is gone no link is up: said by its sign\n\
-\x20\x20\x20\x20const [x1, y1] = at(m.member), [x2, y2] = at(p), d = Math.hypot(x2 - x1, y2 - y1), ux = (x2 - x1) / d, uy = (y2 - y1) / d, g = r + 8;\n\
-\x20\x20\x20\x20cut.append(sv(\"path\", { d: `M ${x1 + ux * g} ${y1 + uy * g} L ${x2 - ux * g} ${y2 - uy * g}` })); lines++;\n\
-\x20\x20\x20\x20const mx = x1 + (x2 - x1) * 0.62, my = y1 + (y2 - y1) * 0.62, a = Math.atan2(uy, ux);\n\
-\x20\x20\x20\x20cut.append(sv(\"path\", { d: `M ${mx - 7 * Math.cos(a - 0.5)} ${my - 7 * Math.sin(a - 0.5)} L ${mx} ${my} L ${mx - 7 * Math.cos(a + 0.5)} ${my - 7 * Math.sin(a + 0.5)}`, \"stroke-dasharray\": \"none\" }));\n\
-\x20\x20}\n\
-\x20\x20svg.append(cut);\n\
 \x20\x20for (const m of members) {\n\
 \x20\x20\x20\x20const [x, y, a] = at(m.member), up = m.state === \"up\", lies = Array.isArray(m.contradicts) ? m.contradicts.length : m.contradicts > 0;\n\
 \x20\x20\x20\x20const half = (v, side) => {\n\
@@ -502,8 +501,8 @@ function ring() {\n\
 \x20\x20\x20\x20svg.append(g);\n\
 \x20\x20}\n\
 \x20\x20const mid = sv(\"text\", { x: W / 2, y: H / 2 - 1, \"text-anchor\": \"middle\", \"font-size\": 22, \"font-weight\": 700 }), low = sv(\"text\", { x: W / 2, y: H / 2 + 18, \"text-anchor\": \"middle\", \"font-size\": 12.5 });\n\
-\x20\x20mid.textContent = members.filter((m) => m.state === \"up\").length + \" / \" + n; low.textContent = lines ? lines + (lines > 1 ? \" links down\" : \" link down\") : \"reachable\";\n\
-\x20\x20low.style.fill = lines ? \"var(--bad)\" : \"var(--soft)\";\n\
+\x20\x20mid.textContent = members.filter((m) => m.state === \"up\").length + \" / \" + n; low.textContent = \"up\";\n\
+\x20\x20low.style.fill = \"var(--soft)\";\n\
 \x20\x20for (const w of [mid, low]) { w.style.stroke = \"var(--card)\"; w.style.strokeWidth = \"4px\"; w.style.paintOrder = \"stroke\"; }\n\
 \x20\x20svg.append(mid, low);\n\
 \x20\x20$(\"ring\").replaceChildren(svg);\n\
@@ -562,9 +561,16 @@ $(\"form\").addEventListener(\"submit\", async (e) => {\n\
 \x20\x20\x20\x20\x20\x20if (b.state !== \"decided\" && states[q - F] === \"-\") set(q - F, \"p\");\n\
 \x20\x20\x20\x20} else $(\"said\").textContent = { 401: \"Refused: the token is missing or wrong.\", 403: \"Refused: this gateway takes no proposals from here.\", 404: \"There is no such question.\", 410: \"That was too long ago.\", 429: \"Too many at once: try again in a moment.\", 503: \"Too few members are reachable.\" }[r.status] || \"Refused with status \" + r.status + \".\";\n\
 \x20\x20} catch (fault) { $(\"said\").textContent = \"It isn't known whether it was proposed: \" + reason(fault) + \". Proposing again does no harm.\"; }\n\
-\x20\x20$(\"send\").disabled = false;\n\
+\x20\x20$(\"send\").disabled = shut;\n\
 });\n\
-setInterval(() => { $(\"tokenrow\").hidden = propose === \"open\"; for (const x of $(\"form\").elements) if (propose === \"never\") x.disabled = true; if (propose === \"never\") $(\"said\").textContent = \"This gateway takes no proposals: it has no token and isn't at a loopback address.\"; }, 500);\n\
+let shut = false;\n\
+setInterval(() => {\n\
+\x20\x20$(\"tokenrow\").hidden = propose === \"open\";\n\
+\x20\x20if (shut === (propose === \"never\")) return;\n\
+\x20\x20shut = !shut;\n\
+\x20\x20for (const x of $(\"form\").elements) x.disabled = shut;\n\
+\x20\x20$(\"said\").textContent = shut ? \"This gateway takes no proposals: it has no token and isn't at a loopback address.\" : \"\";\n\
+}, 500);\n\
 \n\
 // ---- the start -----------------------------------------------------------------------------------------------\n\
 layKey();\n\
@@ -583,4 +589,4 @@ window.brachaLive = { state: () => ({ n, t, F, Q, tally: { ...tally }, after, li
 
 /// The policy of this page, as a header.
 pub(crate) const LIVE_POLICY: &str =
-    "default-src 'none'; connect-src 'self'; script-src 'sha256-81atW9js23PBRyCpSDdQ3aKiKfOY30nBc87M7BdTPTg='; style-src 'sha256-XVniBvl1O6+WLDxC9FTeWsTryPkTksJimd839yo/5Fs='; img-src data:; base-uri 'none'; form-action 'none'; require-trusted-types-for 'script'; trusted-types 'none'; frame-ancestors 'none'";
+    "default-src 'none'; connect-src 'self'; script-src 'sha256-hFKZ+Xyy5zDAqu3jgo2avE6TXrEDxfmaRAvJjSoEluU='; style-src 'sha256-XVniBvl1O6+WLDxC9FTeWsTryPkTksJimd839yo/5Fs='; img-src data:; base-uri 'none'; form-action 'none'; require-trusted-types-for 'script'; trusted-types 'none'; frame-ancestors 'none'";

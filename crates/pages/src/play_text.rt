@@ -7,7 +7,7 @@ pub(crate) const PLAY_BEFORE: &str = "<!DOCTYPE html>\n\
 <meta charset=\"utf-8\">\n\
 <meta name=\"viewport\" content=\"width=device-width, initial-scale=1\">\n\
 <meta name=\"color-scheme\" content=\"light dark\">\n\
-<meta http-equiv=\"Content-Security-Policy\" content=\"default-src 'none'; script-src 'sha256-AK+7q3dgikr/HrVelq07OBSgVlU2kTOtGnE8FvC1iyU='; style-src 'sha256-eFsXTWaYH5DzHB0qRukrzErsNjzIgyQnw+bWq8X1dQM='; base-uri 'none'; form-action 'none'; require-trusted-types-for 'script'; trusted-types 'none'\">\n\
+<meta http-equiv=\"Content-Security-Policy\" content=\"default-src 'none'; script-src 'sha256-sj4nblQF3wPgXB831KXTfJ1pxKtDdEeFSgbmGt4C3og='; style-src 'sha256-eFsXTWaYH5DzHB0qRukrzErsNjzIgyQnw+bWq8X1dQM='; base-uri 'none'; form-action 'none'; require-trusted-types-for 'script'; trusted-types 'none'\">\n\
 <title>A simulated run</title>\n\
 <style>\n\
 :root {\n\
@@ -162,7 +162,7 @@ kbd { border: 1px solid var(--line); border-radius: 4px; padding: 0 .3em; font-s
 \x20\x20\x20\x20\x20\x20\x20\x20the letter and the shape are the kind, the digit and the colour the value.\n\
 \x20\x20\x20\x20\x20\x20\x20\x20<span class=\"glyph k1 v2\">E!0</span> <span class=\"glyph k1 v3\">E!1</span> are sure of 0 or 1, <span class=\"glyph k1 v4\">E?</span> is unsure.</p>\n\
 \x20\x20\x20\x20\x20\x20<p>A solid arrow is a statement that comes to a member; a <span class=\"lie\">red dashed one with a cross is a lie</span>.\n\
-\x20\x20\x20\x20\x20\x20\x20\x20The thick arc around a member is its journal: full is the longest one of the run. A dashed ring and\n\
+\x20\x20\x20\x20\x20\x20\x20\x20The thick arc around a member is its journal: full is the longest one in the events shown. A dashed ring and\n\
 \x20\x20\x20\x20\x20\x20\x20\x20<b>down</b> is a member that crashed, <b>stopped</b> one whose disk failed, a six-sided one with <b>L</b> a liar.\n\
 \x20\x20\x20\x20\x20\x20\x20\x20<b>=0</b> or <b>=1</b> is decided.</p>\n\
 \x20\x20\x20\x20</details>\n\
@@ -190,7 +190,7 @@ kbd { border: 1px solid var(--line); border-radius: 4px; padding: 0 .3em; font-s
 \x20\x20\x20\x20<p class=\"soft\" id=\"decmore\"></p>\n\
 \x20\x20\x20\x20<details><summary>Keys</summary>\n\
 \x20\x20\x20\x20\x20\x20<p><kbd>Space</kbd> play or pause, <kbd>Left</kbd> <kbd>Right</kbd> one event, <kbd>Page up</kbd> <kbd>Page down</kbd> a hundred,\n\
-\x20\x20\x20\x20\x20\x20<kbd>Home</kbd> <kbd>End</kbd> start and end, <kbd>d</kbd> next decision, <kbd>l</kbd> next lie, <kbd>c</kbd> next crash,\n\
+\x20\x20\x20\x20\x20\x20<kbd>Home</kbd> <kbd>End</kbd> start and end, <kbd>d</kbd> next decision, <kbd>l</kbd> next lie, <kbd>c</kbd> next crash or failure,\n\
 \x20\x20\x20\x20\x20\x20<kbd>0</kbd> to <kbd>9</kbd> choose a member (when no field has the focus).</p></details>\n\
 \x20\x20</section>\n\
 </main>\n\
@@ -256,7 +256,7 @@ function eventOf([number, line, saved]) {\n\
 \x20\x20if (w[0] === \"deliver\") return w[3] === \"next\" ? [number, \"d\", m, b, 0, saved] : [number, \"i\", m, b, Number(w[3]), saved];\n\
 \x20\x20if (w[0] === \"group\") return [number, \"g\", m, b, 0, Number(w[3]), saved];\n\
 \x20\x20if (w[0] === \"lie\") return [number, \"l\", m, b, [], w[3] || \"\", saved];\n\
-\x20\x20if (w[0] === \"fuse\") return [number, \"f\", m, w[2] === \"off\" ? -1 : b, saved];\n\
+\x20\x20if (w[0] === \"fuse\") return [number, \"f\", m, w[2], saved];\n\
 \x20\x20if (w[0] === \"crash\") return [number, \"c\", m, w.slice(2).join(\" \"), saved];\n\
 \x20\x20return w[0] === \"restart\" ? [number, \"r\", m, saved] : [number, \"s\", m, b, saved];\n\
 }\n\
@@ -315,6 +315,7 @@ const heardBy = (ev) => {\n\
 };\n\
 const actorOf = (ev) => \"digl\".includes(ev[1]) ? ev[3] : ev[1] === \"s\" ? ev[3] : ev[2];\n\
 const savedBy = (ev) => ev[ev.length - 1];\n\
+const fuse = (ev) => ev[3] === \"off\" ? \"fuse off\" : \"fuse\";\n\
 function link(a, b, e, place) {\n\
 \x20\x20const key = a * 64 + b;\n\
 \x20\x20let at = linkAt.get(key);\n\
@@ -339,7 +340,7 @@ let E = R.events.length;                        // how many events are shown\n\
 \x20\x20\x20\x20if (k === \"g\") link(ev[2], b, e, ev[4] + ev[5]);\n\
 \x20\x20\x20\x20if (k === \"s\") link(ev[2], b, e, 0);\n\
 \x20\x20\x20\x20if (k === \"l\") kinds.lie.push(e);\n\
-\x20\x20\x20\x20if (k === \"c\" || k === \"r\" || bad) kinds.trouble.push(e);\n\
+\x20\x20\x20\x20if (k === \"c\" || bad) kinds.trouble.push(e);\n\
 \x20\x20\x20\x20if (k === \"c\") { me.stateAt.push(e); me.state.push(\"down\"); }\n\
 \x20\x20\x20\x20if (k === \"r\" && !bad) {\n\
 \x20\x20\x20\x20\x20\x20me.stateAt.push(e); me.state.push(\"up\"); me.lifeAt.push(e); me.lifeHeard.push(me.heard.length);\n\
@@ -428,11 +429,11 @@ function tell(e, brief) {\n\
 \x20\x20if (k === \"d\" || k === \"i\") parts.push(\"From member \" + ev[2] + \" to \" + b + \": \" + list(heardBy(ev), 1) + (k === \"i\" ? \" (statement \" + ev[4] + \")\" : \"\") + \".\");\n\
 \x20\x20if (k === \"g\") parts.push(\"A group of \" + ev[5] + \" from member \" + ev[2] + \" to \" + b + \": \" + list(heardBy(ev), brief ? 1 : 3) + \".\");\n\
 \x20\x20if (k === \"l\") parts.push([\"lie\", \"Lie\"], \" of member \" + ev[2] + \" to \" + b + \": \" + (ev[4].length ? list(ev[4], brief ? 1 : 3) : \"bytes \" + ev[5].slice(0, 24) + (ev[5].length > 24 ? \"..\" : \"\") + \" that complete no statement\") + \".\");\n\
-\x20\x20if (k === \"f\") parts.push(ev[3] < 0 ? \"The disk of member \" + b + \" is whole again.\" : \"The disk of member \" + b + \" will fail after \" + many(ev[3], \"call\") + \".\");\n\
+\x20\x20if (k === \"f\") parts.push(ev[3] === \"off\" ? \"The disk of member \" + b + \" is whole again.\" : \"The disk of member \" + b + \" will fail after \" + num(ev[3]) + (ev[3] === \"1\" ? \" call.\" : \" calls.\"));\n\
 \x20\x20if (k === \"c\") parts.push([\"lie\", \"Crash\"], \" of member \" + b + \"; its disk: \" + ev[3] + \".\");\n\
-\x20\x20if (k === \"r\") parts.push(\"Member \" + b + \" is opened again; it has its journal, and has heard nothing.\");\n\
+\x20\x20if (k === \"r\") parts.push(failed.has(ev[0]) ? [\"lie\", \"Member \" + b + \" can't be opened: its disk fails.\"] : \"Member \" + b + \" is opened again; it has its journal, and has heard nothing.\");\n\
 \x20\x20if (k === \"s\") parts.push(\"The link from \" + ev[2] + \" to \" + b + \" starts anew.\");\n\
-\x20\x20if (failed.has(ev[0])) parts.push([\"lie\", k === \"r\" ? \" It fails.\" : \" Its disk fails: it is stopped.\"]);\n\
+\x20\x20if (failed.has(ev[0]) && k !== \"r\") parts.push([\"lie\", \" Its disk fails: it is stopped.\"]);\n\
 \x20\x20const saved = savedBy(ev);\n\
 \x20\x20if (saved.length) parts.push([\"said\", k === \"r\" ? \" In its journal: \" : \" It says: \"], list(saved, brief ? 2 : 4) + \".\");\n\
 \x20\x20return parts.map((p) => typeof p === \"string\" ? p : el(\"span\", { class: p[0] }, p[1]));\n\
@@ -573,9 +574,9 @@ function drawCircle(fraction) {\n\
 \x20\x20if (e && eventOfStep(cur) === e) {\n\
 \x20\x20\x20\x20const ev = R.events[e - 1], node = box.nodes[actorOf(ev)], k = ev[1], saved = savedBy(ev);\n\
 \x20\x20\x20\x20if (\"pcrfs\".includes(k)) {\n\
-\x20\x20\x20\x20\x20\x20const words = k === \"p\" ? \"propose \" + ev[4] : k === \"c\" ? \"\\u2715 crash\" : k === \"r\" ? \"\\u25b2 restart\" : k === \"f\" ? \"fuse\" : \"link anew\";\n\
+\x20\x20\x20\x20\x20\x20const words = k === \"p\" ? \"propose \" + ev[4] : k === \"c\" ? \"\\u2715 crash\" : k === \"r\" ? (failed.has(ev[0]) ? \"\\u2715 restart fails\" : \"\\u25b2 restart\") : k === \"f\" ? fuse(ev) : \"link anew\";\n\
 \x20\x20\x20\x20\x20\x20const x = sv(\"text\", { x: node.x - Math.cos(node.a) * (box.r + 16), y: node.y - Math.sin(node.a) * (box.r + 26) + 5, \"text-anchor\": Math.cos(node.a) > 0.3 ? \"end\" : Math.cos(node.a) < -0.3 ? \"start\" : \"middle\", \"font-size\": 14, \"font-weight\": 700 });\n\
-\x20\x20\x20\x20\x20\x20x.style.fill = k === \"c\" ? \"var(--lie)\" : \"var(--ink)\";\n\
+\x20\x20\x20\x20\x20\x20x.style.fill = k === \"c\" || failed.has(ev[0]) ? \"var(--lie)\" : \"var(--ink)\";\n\
 \x20\x20\x20\x20\x20\x20x.textContent = words;\n\
 \x20\x20\x20\x20\x20\x20top.push(x);\n\
 \x20\x20\x20\x20}\n\
@@ -656,7 +657,7 @@ function drawChart() {\n\
 \x20\x20\x20\x20} else if (k === \"p\") { g.append(sv(\"circle\", { cx: X(b), cy: y, r: 6, fill: \"var(--ink)\" })); word(g, X(b) + 10, y, \"propose \" + ev[4]); }\n\
 \x20\x20\x20\x20else if (k === \"c\") { g.append(sv(\"path\", { d: `M ${X(b) - 7} ${y - 7} l 14 14 m 0 -14 l -14 14`, stroke: \"var(--lie)\", \"stroke-width\": 3 })); word(g, X(b) + 12, y, \"crash\", \"var(--lie)\"); }\n\
 \x20\x20\x20\x20else if (k === \"r\") { g.append(sv(\"polygon\", { points: `${X(b)},${y - 8} ${X(b) + 8},${y + 6} ${X(b) - 8},${y + 6}`, fill: \"var(--good)\" })); word(g, X(b) + 12, y, failed.has(ev[0]) ? \"restart fails\" : \"restart\", failed.has(ev[0]) ? \"var(--lie)\" : \"var(--good)\"); }\n\
-\x20\x20\x20\x20else word(g, X(b) + 8, y, k === \"f\" ? \"fuse\" : \"link anew\");\n\
+\x20\x20\x20\x20else word(g, X(b) + 8, y, k === \"f\" ? fuse(ev) : \"link anew\");\n\
 \x20\x20\x20\x20if (failed.has(ev[0])) { g.append(sv(\"circle\", { cx: X(b), cy: y, r: 9, fill: \"none\", stroke: \"var(--lie)\", \"stroke-width\": 2.5 })); if (k !== \"r\") word(g, X(b) + 12, y + 10, \"disk fails\", \"var(--lie)\"); }\n\
 \x20\x20\x20\x20const saved = savedBy(ev);\n\
 \x20\x20\x20\x20if (saved.length && k !== \"r\") {\n\
@@ -773,7 +774,7 @@ function panel() {\n\
 \x20\x20const life = upTo(mm.lifeAt, at) - 1, heardEnd = upTo(mm.heardAt, at);\n\
 \x20\x20let waiting = 0;\n\
 \x20\x20for (let a = 0; a < n; a++) if (!isLiar[a]) waiting += Math.max(0, upTo(M[a].outAt, at) - linkPlace(a, me, at));\n\
-\x20\x20const facts = [fact(\"Records in its journal\", num(upTo(mm.recAt, at)) + \" of \" + num(mm.recAt.length)), fact(\"Statements said\", num(upTo(mm.outAt, at))),\n\
+\x20\x20const facts = [fact(\"Records in its journal\", num(upTo(mm.recAt, at)) + \" of \" + num(mm.recAt.length) + (R.left_out ? \" in the events shown\" : \"\")), fact(\"Statements said\", num(upTo(mm.outAt, at))),\n\
 \x20\x20\x20\x20fact(\"Decided\", num(upTo(mm.decAt, at))), fact(\"Lives\", num(life + 1)), fact(\"Heard in this life\", num(heardEnd - mm.lifeHeard[life])), fact(\"Under way to it\", num(waiting))];\n\
 \x20\x20$(\"facts\").replaceChildren(...(isLiar[me] ? [fact(\"Lies told so far\", num(upTo(liesOf(me), at)))] : facts));\n\
 \x20\x20$(\"askq\").value = askQ;\n\
@@ -868,7 +869,7 @@ function ribbon() {\n\
 \x20\x20\x20\x20}\n\
 \x20\x20};\n\
 \x20\x20put(kinds.lie, \"--lie\", \"l\");\n\
-\x20\x20put(kinds.trouble.filter((e) => R.events[e - 1][1] !== \"r\"), \"--lie\", \"x\");\n\
+\x20\x20put(kinds.trouble, \"--lie\", \"x\");\n\
 \x20\x20put(kinds.decision, \"--good\", \"d\");\n\
 }\n\
 \n\
