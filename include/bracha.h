@@ -121,9 +121,10 @@ typedef struct bracha_core { void *hidden; } bracha_core;
  * Returns BRACHA_OK, and only then writes `*core`; otherwise the first that applies:
  *   a refusal of the size    there is no cluster of this size
  *   BRACHA_BAD_RECORDS       the bytes aren't whole records
- *   BRACHA_NO_SUCH_MEMBER    `me`, or the origin of a record, isn't below n
- *   BRACHA_NO_SUCH_QUESTION  a record's question isn't below `questions`
- *   BRACHA_MEMORY            an allocation failed; it may be tried again */
+ *   BRACHA_NO_SUCH_MEMBER    `me` isn't below n
+ *   BRACHA_NO_SUCH_QUESTION  the first wrong record's question isn't below `questions`
+ *   BRACHA_NO_SUCH_MEMBER    its origin isn't below n
+ *   BRACHA_MEMORY            an allocation failed, at any point; it may be tried again */
 int32_t bracha_core_open(bracha_core *core, uint8_t n, uint8_t t, uint16_t questions, uint8_t me,
                          const uint8_t *records, size_t len);
 
@@ -286,7 +287,8 @@ void bracha_toss_close(bracha_toss toss);
  *   append  write the bytes of bracha_batch_encode at E, sync; write the single byte 1 at E, sync.
  *           E grows by `*written` - 1. Now the batch is saved. After a crash in between, the whole
  *           batch is there or nothing of it
- *   open    read the whole file; bracha_batch_read gives the records and E
+ *   open    sync the file, since a member that was killed may have left a batch that no sync had
+ *           reached; then read the whole file: bracha_batch_read gives the records and E
  *
  * After a write or a sync that failed, stop: send nothing of the batch, and don't append again.
  * After a failed sync, don't open the file before the machine was restarted: Linux may show bytes

@@ -4,7 +4,7 @@ import ctypes
 import fcntl
 import os
 import threading
-from typing import NamedTuple, Self
+from typing import NamedTuple, NoReturn, Self
 
 from ._core import RECORD, Size
 from ._library import Status, checked, declare, i32, pointer, size, text, u8, u16, u64, within
@@ -81,11 +81,13 @@ class Journal:
 
     @classmethod
     def open(cls, path: str | os.PathLike[str], member: Member) -> tuple[Self, bytes]:
-        """Opens the journal of a member that ran before, also one of `bracha run`, and returns its records with it. OSError: there
-        is no file, or another process has it; Fault: it is no journal of this member."""
+        """Opens the journal of a member that ran before, also one of `bracha run`, and returns its records with it. It syncs the file
+        first: a member that was killed may have left a batch that no sync had reached. OSError: there is no file, another process
+        has it, or the disk failed; Fault: it is no journal of this member."""
         file = os.open(path, os.O_RDWR | os.O_CLOEXEC)
         journal = cls(file, 0)
         fcntl.flock(file, fcntl.LOCK_EX | fcntl.LOCK_NB)
+        os.fsync(file)
         with open(file, "rb", closefd=False) as whole:
             records, journal._end = read_journal(member, whole.read())
         return journal, records
@@ -117,6 +119,9 @@ class Journal:
             if self._file >= 0:
                 file, self._file, self._stopped = self._file, -1, True
                 os.close(file)
+
+    def __reduce__(self) -> NoReturn:
+        raise TypeError("a journal isn't copied: its file has one holder")
 
     def __del__(self) -> None:
         self.close()

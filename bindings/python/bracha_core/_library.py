@@ -6,7 +6,7 @@ import enum
 import os
 import threading
 from collections.abc import Callable
-from typing import Any
+from typing import Any, NoReturn
 
 ABI = 1
 """The number of the interface that this package was written for."""
@@ -121,6 +121,9 @@ class Handle:
             handle, self._handle, self._at = self._handle, None, 0
             if handle is not None:
                 self._close(handle)
+
+    def __reduce__(self) -> NoReturn:
+        raise TypeError("what the library owns isn't copied: open another one")
 
     def __del__(self) -> None:
         self.close()

@@ -1,5 +1,6 @@
 """What the package promises, from outside. Run it by `python3 -m unittest discover -s tests` with BRACHA_LIBRARY set."""
 
+import copy
 import os
 import tempfile
 import threading
@@ -161,6 +162,21 @@ class Journals(unittest.TestCase):
         folder = tempfile.TemporaryDirectory()
         self.addCleanup(folder.cleanup)
         self.path = f"{folder.name}/member-0.journal"
+
+    def test_opening_syncs(self) -> None:
+        Journal.create(self.path, MEMBER).close()
+        with mock.patch("os.fsync", side_effect=OSError("the disk failed")), self.assertRaises(OSError):
+            Journal.open(self.path, MEMBER)
+        with mock.patch("os.fsync", wraps=os.fsync) as synced:
+            Journal.open(self.path, MEMBER)[0].close()
+        synced.assert_called_once()
+
+    def test_no_copies(self) -> None:
+        with Journal.create(self.path, MEMBER) as journal:
+            for one in (journal, Core(ONE, 0), Feeder(ONE)):
+                for copied in (copy.copy, copy.deepcopy):
+                    with self.assertRaises(TypeError):
+                        copied(one)
 
     def test_saved(self) -> None:
         records, _ = alone()

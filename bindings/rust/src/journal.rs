@@ -131,18 +131,21 @@ impl<D: Disk> Journal<D> {
         Ok(Journal { disk, end: HEAD as u64 - 1, stopped: false, batch: Vec::new() })
     }
 
-    /// Opens a journal whose bytes on the disk are `file`, and returns its records with it.
+    /// Opens a journal whose bytes on the disk are `file`, and returns its records with it. It syncs
+    /// the disk first: a member that was killed may have left a batch that no sync had reached.
     ///
     /// # Errors
     ///
+    /// [`JournalFault::Disk`] if the sync failed.
     /// [`JournalFault::Library`]: [`Fault::BadHeader`], [`Fault::OtherHeader`],
     /// [`Fault::BadRecord`], [`Fault::CutShort`] or [`Fault::OldVersion`] if the file is no journal
     /// of this member; [`Fault::Memory`]; an error of the size or number.
     pub fn open(
-        disk: D,
+        mut disk: D,
         member: &Member,
         file: &[u8],
     ) -> Result<Opened<D>, JournalFault<D::Error>> {
+        disk.sync().map_err(JournalFault::Disk)?;
         let (records, end) = records_of(member, file)?;
         Ok((Journal { disk, end: end as u64, stopped: false, batch: Vec::new() }, records))
     }

@@ -255,6 +255,15 @@ fn records_on(file: &[u8]) -> Vec<u8> {
 }
 
 #[test]
+fn an_opening_syncs_before_it_hands_records_out() {
+    let head = Journal::create(Bytes::default(), &MEMBER).unwrap().into_disk().synced;
+    let fails = Bytes { fails_at: Some(0), ..Bytes::default() };
+    assert!(matches!(Journal::open(fails, &MEMBER, &head), Err(JournalFault::Disk(_))));
+    let (journal, _) = Journal::open(Bytes::default(), &MEMBER, &head).unwrap();
+    assert_eq!(journal.into_disk().calls, 1);
+}
+
+#[test]
 fn a_journal_is_saved_batch_by_batch_wherever_it_fails() {
     let records = alone().0;
     let (first, second) = records.split_at(7 * 3);
