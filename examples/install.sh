@@ -14,23 +14,27 @@
 # Where a shell looks for completions: bash and zsh below /usr/local/share. fish looks below /usr/share and ~/.local/share, and
 # into /etc/fish/completions, but below /usr/local/share only if XDG_DATA_DIRS names it. So for /usr/local its file goes to /etc.
 set -eu
+umask 022 # everybody can read the folders that it makes, also if root's umask is 077
 
 here=$(cd "$(dirname "$0")/.." && pwd)
+usage() {
+    sed -n '5s/^# *//p' "$0" >&2
+    exit 2
+}
 uninstall=
 library=
 while :; do
     case ${1-} in
     --uninstall) uninstall=yes ;;
     --library) library=yes ;;
-    -*)
-        sed -n '5s/^# *//p' "$0" >&2
-        exit 2
-        ;;
+    -*) usage ;;
     *) break ;;
     esac
     shift
 done
+[ $# -le 1 ] || usage
 prefix=${1:-/usr/local}
+while [ "$prefix" != "${prefix%/}" ]; do prefix=${prefix%/}; done
 to=${DESTDIR-}$prefix
 program=$here/crates/bracha/out/bracha
 case $prefix in
@@ -48,7 +52,7 @@ put() {
         mkdir -p "$(dirname "$3")"
         install -m "$1" "$2" "$3"
         echo "$3"
-    elif [ -e "$3" ]; then
+    elif [ -e "$3" ] || [ -L "$3" ]; then
         rm "$3"
         echo "$3"
     fi

@@ -42,7 +42,7 @@ for command in $commands; do
     done
 done
 
-for line in 'run --stay --log' --ignore-signal=XFSZ StartLimitIntervalSec=0 Restart=on-failure RestartMaxDelaySec=60 UMask=0077 PrivateUsers=yes ProtectKernelLogs=yes \
+for line in 'run --stay --log' --ignore-signal=XFSZ StartLimitIntervalSec=0 Restart=on-failure RestartMaxDelaySec=60 LimitNOFILE=16384 UMask=0077 PrivateUsers=yes ProtectKernelLogs=yes \
     ProtectKernelModules=yes ProtectKernelTunables=yes RestrictRealtime=yes SystemCallArchitectures=native \
     SystemCallFilter=@system-service; do
     has packaging/bracha@.service "$line"
@@ -69,10 +69,10 @@ for number, (name, service) in enumerate(sorted(services.items())):
     with open(service["build"]["dockerfile"]) as file:
         assert 'ENTRYPOINT' in file.read(), name
     assert name == f"member-{number}" and service["build"]["context"] == "..", name
-    assert service["volumes"] == [f"./data-{number}:/data"], name
+    assert service["volumes"] == [f"../data-{number}:/data"], name
     assert service["command"] == ["run", "--stay", "--log", f"/data/member-{number}.toml"], name
     assert service["healthcheck"]["test"] == ["CMD", "bracha", "status", "--ready", desk], name
-    assert service["restart"] == "on-failure" and service["network_mode"] == "host", name
+    assert service["restart"] == "unless-stopped" and service["network_mode"] == "host", name
 assert len(services) == 4
 END
 }

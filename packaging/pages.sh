@@ -1,6 +1,6 @@
 #!/bin/sh
 # Makes pages of the libraries' documentation: a page a crate with what it offers, each item with its text and its contract,
-# and a page that lists them.
+# and a page that lists them. Type aliases and re-exports of other crates' items are missing.
 #
 #   packaging/pages.sh [FOLDER]   by default pages/ here, which is made if it isn't there
 set -eu

@@ -24,7 +24,7 @@ begins() {
     process[$1]=$!
     disown # so that the shell doesn't tell of its end
     for _ in {1..400}; do
-        if grep -qs ready "$1.out"; then return 0; fi
+        if grep -qsw ready "$1.out"; then return 0; fi
         if ! kill -0 "${process[$1]}" 2>/dev/null; then break; fi
         sleep 0.02
     done
@@ -57,7 +57,7 @@ END
 members() {
     local try m
     for try in 1 2 3 4 5; do
-        rm -f member-*.journal
+        rm -f member-*.journal member-*.toml client.toml
         "$program" new-cluster --n 4 --t 1 --questions "$1" --cluster "$try" --port "$(free_ports)" . >/dev/null
         for m in 0 1 2 3; do
             "$program" init "member-$m.toml"

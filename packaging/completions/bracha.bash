@@ -4,13 +4,22 @@ _bracha() {
     COMPREPLY=()
     [ "${COMP_WORDS[1]}" != --quiet ] || at=2
     if [ "$COMP_CWORD" -le "$at" ]; then
+        compopt +o filenames # no slash after a command, also if a folder has its name
         mapfile -t COMPREPLY < <(compgen -W "new-cluster init check run propose ask decide status transcript audit gateway epochs dump migrate simulate rounds hear help --quiet --help --version" -- "$word")
         return
     fi
     case $before in
-    --trace | --chart | --page)
+    --trace | --chart | --page | --token)
         mapfile -t COMPREPLY < <(compgen -f -- "$word")
         return
+        ;;
+    --order)
+        compopt +o filenames
+        mapfile -t COMPREPLY < <(compgen -W "random adversary links" -- "$word")
+        return
+        ;;
+    --n | --t | --questions | --cluster | --port | --desk | --timeout | --question | --member | --from | --to | --seed | --seconds | --liars | --seeds | --me | --listen)
+        return # a number or an address
         ;;
     esac
     case ${COMP_WORDS[at]} in
@@ -31,7 +40,10 @@ _bracha() {
     decide) mapfile -t COMPREPLY < <(compgen -W "--all --json --timeout --quiet --help" -f -- "$word") ;;
     status) mapfile -t COMPREPLY < <(compgen -W "--all --question --links --ready --json --timeout --quiet --help" -f -- "$word") ;;
     transcript) mapfile -t COMPREPLY < <(compgen -W "--all --timeout --quiet --help" -f -- "$word") ;;
-    help) mapfile -t COMPREPLY < <(compgen -W "new-cluster init check run propose ask decide status transcript audit gateway epochs dump migrate simulate rounds hear" -- "$word") ;;
+    help)
+        compopt +o filenames
+        mapfile -t COMPREPLY < <(compgen -W "new-cluster init check run propose ask decide status transcript audit gateway epochs dump migrate simulate rounds hear" -- "$word")
+        ;;
     esac
 }
 complete -o filenames -F _bracha bracha
