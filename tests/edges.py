@@ -3,13 +3,14 @@
 
 Looks at the edges of the built program for what a user would suffer from and no contract says: how long a client waits, which
 statuses commands end with, whose links a member takes, what it opens and says more often than it should, what a command leaves
-behind. PROGRAM is crates/bracha/out/bracha unless another is named. It takes the ports 28400 to 29459, a C
+behind. PROGRAM is crates/bracha/out/bracha unless another is named. It takes the ports 28400 to 29559, a C
 compiler and a minute, with all checks side by side. Prints what is wrong, and in its last line `N passed, M failed`; the status is 1 where M isn't 0.
 """
 import concurrent.futures
 import contextlib
 import ctypes
 import errno
+import fcntl
 import json
 import multiprocessing
 import os
@@ -427,6 +428,9 @@ def links_of_a_member(folder, port):
         strangers = [dial(port, "127.0.0.9") for _ in range(70)]
         first, link = soon(lambda: is_welcomed(port, 1, 0, "127.0.0.2")), soon(lambda: is_welcomed(port, 2, 0, "127.0.0.3"))
         found += differs("members beside 70 silent strangers are welcomed", (first is not None, link is not None), (True, True))
+        begun = time.monotonic()
+        second, took = is_welcomed(port, 1, 0, "127.0.0.2"), time.monotonic() - begun
+        found += differs(f"a second link is refused after half a second ({took:.1f} s)", (second, 0.4 < took < 1.8), (None, True))
         for it in strangers:
             it.close()
         silent = [dial(port, "127.0.0.2") for _ in range(110)]
@@ -965,6 +969,13 @@ def proofs_of_more_than_t_are_wanted(folder, port):
             path = cluster_file(folder, f"one-{name}", [port + 8, at, port + 14, port + 14 + 1])
             said, status, took = timed(["audit", "--all", "--timeout", "2", path, "5"], folder)
             found += differs(f"one proves, one {name} ({said})", ("no\n" in said, says in said, status, took < 4), (True, True, 1, True))
+        # What proves nothing is no transcript to show: it is told, and another one awaited.
+        path = cluster_file(folder, "lies-first", [port + 17, port + 18, port + 19, port + 8])
+        for _ in range(3):
+            found += differs("a proof among lies", apart(["transcript", "--all", path, "5"], folder)[::2], (good.decode(), 0))
+        path = cluster_file(folder, "lies-alone", [port + 17, port + 18, port + 19, port + 16])
+        printed, said, status = apart(["transcript", "--all", "--timeout", "2", path, "5"], folder)
+        found += differs(f"lies alone ({said})", (printed, "member 0 sends a transcript that proves nothing" in said, status), ("", True, 1))
         path = cluster_file(folder, "nobody", [port + 19, port + 12, port + 15, port + 16])
         said, status, took = timed(["transcript", "--all", "--timeout", "2", path, "5"], folder)
         found += differs("an output without a transcript", apart(["transcript", "--all", "--timeout", "1", path, "5"], folder)[0], "")
@@ -1306,19 +1317,23 @@ def any_host_and_another_address(folder, port):
 def desks_that_flood_and_hang_up(folder, port):
     """A desk that sends without an end is given up once it has sent more than any transcript has, and one that hangs up is asked a few
     times a second."""
-    asked = []
+    asked, sent = [], []
 
     def floods(link):
         link.recv(64)
         link.sendall(b"transcript 5 bit 1 count 4000000000\n")
+        sent.append(0)
         while True:
             link.sendall(b"0 01000500010100\n" * 8192)
+            sent[-1] += 17 * 8192
 
     with serving(port, floods), serving(port + 1, lambda link: asked.append(time.monotonic())):
         said, status, took = timed(["transcript", "--all", "--timeout", "30", cluster_file(folder, "floods", [port], 0), "5"], folder, 40)
         found = differs(f"a flood ({took:.1f} s)", (said, status, took < 25), ("bracha: member 0 doesn't answer\n", 1, True))
         said, status, took = timed(["transcript", "--quiet", "--timeout", "30", f"127.0.0.1:{port}", "5"], folder, 40)
         found += differs(f"a flood of one desk ({took:.1f} s)", (said, status, took < 25), ("bracha: no answer\n", 1, True))
+        # 32 MB are read, and the sockets hold some.
+        found += differs(f"what is taken ({sent})", [it >> 20 < 48 for it in sent], [True, True])
         say(["decide", "--all", "--timeout", "2", cluster_file(folder, "hangs-up", [port + 1], 0), "5", "1"], folder)
         return found + differs(f"asked {len(asked)} times in two seconds", 2 < len(asked) < 16, True)
 
@@ -1343,6 +1358,68 @@ def a_stopped_member_takes_no_link(folder, port):
         found += differs("what clients are told", [told(port + 2, line)[0] for line in ("STATUS", "LINKS", "AWAIT 1")], ["STOPPED"] * 3)
         process.stdin.close()
         return found + differs("its status", process.wait(8), 1)
+
+
+@check
+def a_stop_behind_a_burst(folder, port):
+    """A member whose disk fills in a burst of more decisions than its log holds is stopped, and its log has all of them and the stop."""
+    def little_room():
+        signal.signal(signal.SIGXFSZ, signal.SIG_IGN)
+        resource.setrlimit(resource.RLIMIT_FSIZE, (250_000, 250_000))
+
+    if not os.path.isdir("/dev/shm"):
+        return []
+    # On a disk in memory each second has thousands of decisions.
+    with tempfile.TemporaryDirectory(prefix="bracha-edges-", dir="/dev/shm") as room:
+        path = settings(room, 0, [f"127.0.0.1:{port}"], f"127.0.0.1:{port + 1}", 1, 0, questions=4096)
+        with running(path, "--log", preexec_fn=little_room) as process:
+            with dial(port + 1, timeout=30.0) as desk, contextlib.suppress(OSError):
+                desk.sendall(b"".join(b"PROPOSE %d %d\n" % (it, it % 2) for it in range(4096)))
+                for reply in desk.makefile("rb"):
+                    if reply == b"STOPPED\n":
+                        break
+            status = process.wait(20)
+        made = subprocess.run([PROGRAM, "dump", f"{room}/member-0.journal"], capture_output=True, text=True, check=True).stdout
+        decided = [it.split() for it in made.splitlines() if it.startswith("decided")]
+        logged = [it for it in lines_of(path) if it.startswith(("decided", "missed", "stopped"))]
+        found = differs("its status", status, 1)
+        found += differs("the last line", logged[-1:], ["stopped device: File too large (os error 27)"])
+        return found + differs("what is logged", sorted(logged[:-1]), sorted(f"decided {it[1]} {it[3]}" for it in decided))
+
+
+@check
+def a_stop_behind_a_late_reader(folder, port):
+    """What a member decided before it was stopped is logged before its stop, also if the log's reader is late."""
+    def little_room():
+        signal.signal(signal.SIGXFSZ, signal.SIG_IGN)
+        resource.setrlimit(resource.RLIMIT_FSIZE, (80_000, 80_000))
+
+    if not os.path.isdir("/dev/shm"):
+        return []
+    with tempfile.TemporaryDirectory(prefix="bracha-edges-", dir="/dev/shm") as room:
+        path = settings(room, 0, [f"127.0.0.1:{port}"], f"127.0.0.1:{port + 1}", 1, 0, questions=4096)
+        subprocess.run([PROGRAM, "init", path], check=True)
+        reads, writes = os.pipe()
+        fcntl.fcntl(writes, fcntl.F_SETPIPE_SZ, 4096)
+        with open(reads, "rb") as log:
+            process = subprocess.Popen([PROGRAM, "run", "--stay", "--log", path], stdout=subprocess.PIPE, stderr=writes, preexec_fn=little_room)
+            os.close(writes)
+            try:
+                process.stdout.readline()
+                with dial(port + 1, timeout=20.0) as desk:
+                    # The first of these fill the pipe; the others are decided, and the disk full, while nobody reads.
+                    for first, last in ((0, 500), (500, 800)):
+                        desk.sendall(b"".join(b"PROPOSE %d 1\n" % it for it in range(first, last)))
+                        time.sleep(1.2)
+                lines = [it.split(b"Z ", 1)[-1] for it in log.read().splitlines()]
+                status = process.wait(20)
+            finally:
+                process.kill()
+                process.wait()
+                process.stdout.close()
+    stops = [number for number, line in enumerate(lines) if line.startswith(b"stopped")]
+    found = differs("its status, and the lines of its stop", (status, len(stops)), (1, 1))
+    return found + differs("decisions behind the stop", [it for it in lines[stops[0]:] if it.startswith(b"decided")] if stops else None, [])
 
 
 def stalling(folder, **words):
@@ -1822,6 +1899,22 @@ def too_few_threads_are_told_of(folder, port):
     said, status = say(["run", "--stay", path], folder, executable=program, preexec_fn=as_nobody)
     words = "bracha: memory\nthreads: the system refused one: see `ulimit -u`\n"
     return differs("what it says", (said, status), (words, 1))
+
+
+@check
+def who_listens_elsewhere_decides(folder, port):
+    """A member links to itself if it listens at another address than its entry of the peers names, or at all addresses; of a chain too."""
+    found = []
+    for number, (entry, listen) in enumerate((("127.0.0.5", "0.0.0.0"), ("127.0.0.5", "127.0.0.1"), ("0.0.0.0", None))):
+        at = port + 4 * number
+        more = f'listen = "{listen}:{at}"\n' if listen else ""
+        for chain in ("", f'epochs = "{folder}/{number}.epochs"\n'):
+            os.makedirs(room := f"{folder}/{number}{'-chain' if chain else ''}")
+            path = settings(room, 0, [f"{entry}:{at}"], f"127.0.0.1:{at + 1}", 1, 0, more=more + chain)
+            with running(path):
+                replies = [told(at + 1, it)[0] for it in ("PROPOSE 0 1", "AWAIT 0")]
+            found += differs(f"{entry}, {listen}, {chain}", replies, ["OK", "DECIDED 1"])
+    return found
 
 
 def main():

@@ -10,6 +10,7 @@ What members tell of slots is compared with what was proposed to them.
 """
 import concurrent.futures
 import contextlib
+import fcntl
 import os
 import random
 import re
@@ -230,6 +231,9 @@ def slots_over_many_epochs():
             replies = desk.ask("ASK 99999999999999999999 x", "PROPOSE 99999999999999999999", "PROPOSE 18446744073709551615 2",
                                "x" * 1024 + "ASK 400", "x" * 3000, "ASK 19")
             expect(replies == ["ERR 1 line", "ERR 1 line", "ERR 2 question", "ERR 1 line", "ERR 1 line", f"DECIDED {bits[19]}"], f"{replies}")
+        # A link that an epoch refuses before it runs is of version 2 all the same.
+        old = [line for me in range(4) for line in it.log(me).splitlines() if "version 1" in line]
+        expect(old == [], f"{len(old)} links of version 1: {old[:2]}")
         names = sorted(os.listdir(it.journals(0)), key=lambda name: int(name.split(".")[0]))
         expect(names[:11] == [f"{epoch}.journal" for epoch in range(11)], f"{names}")
 
@@ -414,6 +418,38 @@ def made_up_desks(port, replies):
                 with contextlib.suppress(OSError):
                     it.shutdown(socket.SHUT_RDWR)
                 it.close()
+
+
+def a_journal_that_is_gone():
+    """A member whose journal is removed or replaced while its epoch runs is stopped within seconds; one behind the newest was put away."""
+    with chain(27440) as it:
+        desks = [it.desk(me) for me in range(4)]
+        bits = drawn(40)
+        decide(desks, bits, range(40))  # epoch 2 is the newest, and a slot of it is left
+        await_closed(it.client(), 2)
+        for me in (0, 1):
+            path = f"{it.journals(me)}/2.journal"
+            os.rename(path, f"{path}.aside")
+            if me == 1:
+                with open(f"{path}.aside", "rb") as file, open(path, "wb") as copy:
+                    copy.write(file.read())
+            expect(it.runs[me].wait(10) == 1, f"member {me} ends with {it.runs[me].returncode}")
+            said = "bracha: stopped\n" + f"{path}: the file was removed or replaced while the member ran\n"
+            expect(it.log(me).endswith(said), f"member {me} says {it.log(me)[-300:]}")
+            del it.runs[me]
+            os.rename(f"{path}.aside", path)
+            it.start(me)
+        # Epoch 2 goes on behind the newest, since one of its slots is open.
+        for desk in desks:
+            desk.close()
+        desks[0].ask("PROPOSE 45 1")
+        decide(desks, {50: 1}, [50])
+        os.rename(f"{it.journals(0)}/2.journal", f"{it.folder}/2.journal")
+        end = time.monotonic() + 10
+        while desks[0].ask("ASK 45") != ["ERR 5 gone"]:
+            expect(it.runs[0].poll() is None and time.monotonic() < end, f"it isn't put away: {it.log(0)[-300:]}")
+            time.sleep(0.1)
+        expect(desks[0].ask("ASK 50", "ASK 20") == ["DECIDED 1", f"DECIDED {bits[20]}"], "it lost the others")
 
 
 def epochs_of_made_up_desks():
@@ -756,6 +792,80 @@ def new_cluster():
         expect("chain = true\n" in file.read(), "client.toml isn't one of a chain")
 
 
+def all_journals_are_looked_at():
+    """`check` reads all journals of a chain, as `run` does, and `init` begins no chain beside later journals or one that was put aside."""
+    it = Chain(27340)
+    folder = it.journals(0)
+
+    def ends(command, status, *parts):
+        done = subprocess.run([PROGRAM, *command.split(), it.settings(0)], capture_output=True, check=False, timeout=10)
+        said = done.stdout + done.stderr
+        expect(done.returncode == status and all(part.encode() in said for part in parts), f"{command}: {done.returncode} {said}")
+
+    def write(epoch, records=b"", cluster=None):
+        number = CLUSTER + (epoch if cluster is None else cluster)
+        batch = struct.pack(">BH", 1, len(records) // 6) + records if records else b""
+        with open(f"{folder}/{epoch}.journal", "wb") as file:
+            file.write(b"BRACHAJ2" + struct.pack(">QBBHB", number, it.n, it.t, it.questions, 0) + bytes(3) + batch + b"\0")
+
+    ends("check", 0, "\nrecords 0\n")
+    write(1)
+    write(2, bytes((1, 0, 0, 0, 1, 0x10, 1, 0, 1, 0, 1, 0x11)))
+    ends("check", 0, "\nrecords 2\n")
+    ends("check --json", 0, '"records":2', f'"cluster":{CLUSTER}')
+    # The first was put away, as the epochs that are closed may be.
+    os.remove(f"{folder}/0.journal")
+    ends("check", 0, "\nrecords 2\n")
+    ends("init", 1, "journal NotEmpty", "journals up to that of epoch 2")
+    expect(not os.path.exists(f"{folder}/0.journal"), "init made a journal")
+    write(1, cluster=0)
+    ends("check", 1, "journal OtherHeader", "1.journal")
+    ends("run --stay", 1, "journal OtherHeader", "1.journal")
+    write(0)
+    os.remove(f"{folder}/1.journal")
+    ends("check", 1, "bracha: file", "1.journal", "put this journal back")
+    ends("run --stay", 1, "bracha: file", "1.journal", "put this journal back")
+    write(1)
+    os.symlink(boot_id(), f"{folder}/1.journal.unsynced")
+    for command in ("check", "run --stay"):
+        ends(command, 1, "journal Device", "1.journal.unsynced")
+    os.remove(f"{folder}/1.journal.unsynced")
+    # One process has the folder.
+    held = os.open(folder, os.O_RDONLY)
+    try:
+        fcntl.flock(held, fcntl.LOCK_EX | fcntl.LOCK_NB)
+        ends("run --stay", 1, "bracha: file", f"{folder}: open: another process has it")
+    finally:
+        os.close(held)
+    os.rename(f"{folder}/2.journal", f"{folder}/2.journal.forgotten")
+    for command in ("check", "init", "run --stay"):
+        ends(command, 1, "bracha: forgotten", "2.journal.forgotten")
+
+
+def boot_id():
+    with open("/proc/sys/kernel/random/boot_id", encoding="ascii") as file:
+        return file.read().strip()
+
+
+def few_files_are_told():
+    """A member of a chain says so if it may open few files, and has the folder for as long as it runs."""
+    it = Chain(27350)
+    words = [PROGRAM, "run", "--stay", it.settings(0)]
+    with subprocess.Popen(["prlimit", "--nofile=60", *words], stdout=subprocess.PIPE, stderr=subprocess.PIPE) as run:
+        ready, held = run.stdout.readline(), os.open(it.journals(0), os.O_RDONLY)
+        try:
+            fcntl.flock(held, fcntl.LOCK_EX | fcntl.LOCK_NB)
+            is_held = False
+        except BlockingIOError:
+            is_held = True
+        os.close(held)
+        run.kill()
+        said = run.stderr.read()
+        expect(ready == b"member 0 ready\n", f"isn't ready: {said}")
+        expect(is_held, "while it runs it doesn't have the folder")
+        expect(said.startswith(b"bracha: 60 open files are enough for 15 of 32 clients"), f"{said}")
+
+
 def hello(it, epoch, me, to, version=2):
     return struct.pack(">HBBQBBHBB", 16, 1, version, CLUSTER + epoch, it.n, it.t, it.questions, me, to)
 
@@ -848,14 +958,16 @@ def play(check):
 
 def main():
     checks = [slots_over_many_epochs, dumps_name_their_clusters, restarts, comeback, followers, quiet, ends, put_away,
-              put_away_while_it_runs, epochs_of_made_up_desks, closed_epochs, new_cluster, liar_and_kills]
+              put_away_while_it_runs, a_journal_that_is_gone, epochs_of_made_up_desks, closed_epochs, new_cluster, all_journals_are_looked_at, few_files_are_told, liar_and_kills]
     # These wait for epochs to end, beside the others.
     waiting = [asks_for_closed_epochs, half_decided_epochs_end, late_decisions_are_told_once, epochs_that_run_on_are_told, a_burst_over_an_end_is_told,
                an_await_ends_with_its_epoch, a_client_outlasts_its_epoch, who_waits_for_a_place_outlasts_the_epoch, who_waits_for_too_long_is_closed,
                missed_epochs_are_made_up_for]
     if LONG:
         checks, waiting = [lambda: liar_and_kills(100_000, 200, questions=1024, width=256), thousand_epochs], []
-    with concurrent.futures.ThreadPoolExecutor(4) as pool:
+    # All folders of the checks are within this one, which goes with the script.
+    with tempfile.TemporaryDirectory(prefix="epochs-") as room, concurrent.futures.ThreadPoolExecutor(4) as pool:
+        tempfile.tempdir = room
         beside = [pool.submit(play, check) for check in waiting]
         failed = sum(play(check) for check in checks) + sum(it.result() for it in beside)
     print(f"{len(checks) + len(waiting) - failed} passed, {failed} failed")

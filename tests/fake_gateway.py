@@ -2,12 +2,13 @@
 """A made-up gateway for tests of `crates/pages/html/live.html`: it serves plausible data and talks to no cluster.
 
     fake_gateway.py [--port 25000] [--n 4] [--questions 256] [--rate 8] [--seed 1] [--token FILE] [--done PART]
-                    [--quiet-members] [--hostile] [--page live.html]
+                    [--quiet-members] [--hostile] [--cluster 7] [--page live.html]
 
 --done PART: this part of the questions (0 to 1) is decided at the start. --rate: decisions a second.
 Member n - 1 contradicts the others now and then, one other goes away and comes back, and some links are down for a while; with
 --quiet-members none of that happens. --hostile puts markup, wrong types and numbers out of range into what it tells.
-POST /fake/members {"member":1,"state":"silent"} sets the state of a member.
+POST /fake/members {"member":1,"state":"silent"} sets the state of a member. After POST /fake/mute {} the streams stay open and tell
+nothing more.
 """
 import argparse
 import json
@@ -26,7 +27,7 @@ ODD_EVENTS = [f"event: {name}\ndata: {json.dumps(data)}\n\n" for name, data in [
     ("member", {"member": 0, "state": ODD}), ("decision", {"question": ODD, "bit": ODD, "ms": ODD, "time": ODD}),
     ("decision", {"question": 5000, "bit": 1}), ("contradiction", {"member": 1, "question": 3, "says": ODD}),
     ("spent", {"question": -1}), ("nonsense", {"a": ODD})]]
-ODD_FIELDS = [(2, "state", ODD), (3, "statements", ODD), (4, "contradicts", ODD), (5, "member", ODD), (6, "down_out", [ODD, 99, -1])]
+ODD_FIELDS = [(2, "state", ODD), (3, "statements", ODD), (4, "contradicts", ODD), (5, "member", ODD), (6, "in", ODD)]
 
 
 class Cluster:
@@ -42,9 +43,10 @@ class Cluster:
         self.hostile = a.hostile
         self.lately = [0] * 60
         self.listeners = []
+        self.muted = False
         self.rate, self.quiet = a.rate, a.quiet_members
-        self.members = [{"member": m, "state": "up", "in": a.n, "out": a.n, "down_in": [], "down_out": [], "statements": 0,
-                         "decided": 0, "contradicts": []} for m in range(a.n)]
+        self.members = [{"member": m, "state": "up", "in": a.n, "out": a.n, "statements": 0, "decided": 0, "contradicts": []}
+                        for m in range(a.n)]
         now = int(time.time() * 1000)
         for q in range(int(a.questions * a.done)):
             if self.random.random() < 0.004:
@@ -76,6 +78,8 @@ class Cluster:
                 self.send(odd)
 
     def send(self, text):
+        if self.muted:
+            return
         for listener in list(self.listeners):
             try:
                 listener.put_nowait(text)
@@ -145,18 +149,15 @@ class Cluster:
                 one["decided"] = self.members[0]["decided"]
                 one["statements"] = self.members[0]["statements"] + self.random.randrange(20)
             self.tell("member", {"member": 1, "state": one["state"]})
-        for m in self.members:
-            m["down_in"], m["down_out"] = [], []
+        gone = {m["member"] for m in self.members if m["state"] == "silent"}
+        coming, going = [set(gone) for _ in range(n)], [set(gone) for _ in range(n)]      # of each member: whose link with it is down
         for _ in range(max(1, n // 8)):
             if self.random.random() < 0.6:
                 a, b = self.random.sample(range(n), 2)
-                self.members[a]["down_out"].append(b)
-                self.members[b]["down_in"].append(a)
-        gone = [m["member"] for m in self.members if m["state"] == "silent"]
-        for m in self.members:
-            m["down_in"] = sorted(set(m["down_in"] + gone))
-            m["down_out"] = sorted(set(m["down_out"] + gone))
-            m["in"], m["out"] = n - len(m["down_in"]), n - len(m["down_out"])
+                going[a].add(b)
+                coming[b].add(a)
+        for m, no_in, no_out in zip(self.members, coming, going):
+            m["in"], m["out"] = n - len(no_in), n - len(no_out)
 
 
 def handler(cluster, a, token, page):
@@ -201,7 +202,7 @@ def handler(cluster, a, token, page):
                 return self.reply(200, page, "text/html; charset=utf-8")
             if url.path == "/v1/members":
                 with cluster.lock:
-                    body = {"cluster": 7, "n": cluster.n, "t": cluster.t, "questions": cluster.questions,
+                    body = {"cluster": a.cluster, "n": cluster.n, "t": cluster.t, "questions": cluster.questions,
                             "propose": "token" if token else "open", "members": cluster.told_members()}
                     text = json.dumps(body, separators=(",", ":"))
                 return self.reply(200, text)
@@ -290,6 +291,10 @@ def handler(cluster, a, token, page):
                     cluster.members[body["member"]]["state"] = body["state"]
                     cluster.tell("member", {"member": body["member"], "state": body["state"]})
                 return self.reply(200, {})
+            if self.path == "/fake/mute":
+                with cluster.lock:
+                    cluster.muted = True
+                return self.reply(200, {})
             match = re.fullmatch(r"/v1/questions/(\d{1,5})", self.path)
             if not match or int(match[1]) >= cluster.questions:
                 return self.reply(404, {"error": "question"})
@@ -320,6 +325,7 @@ def main():
     words.add_argument("--token")
     words.add_argument("--quiet-members", action="store_true")
     words.add_argument("--hostile", action="store_true")
+    words.add_argument("--cluster", type=int, default=7)
     words.add_argument("--page", default=os.path.join(os.path.dirname(os.path.abspath(__file__)), "..", "crates", "pages", "html", "live.html"))
     a = words.parse_args()
     token = open(a.token, encoding="utf-8").read().strip() if a.token else None

@@ -468,6 +468,7 @@ def kills_are_seen(folder, port):
         found += differs("a transcript of what isn't decided", transcript(gateway, 400)[0], 404)
         cluster.kill(0)
         found += differs("a member is silent", soon(lambda: gateway.json("/v1/members")["members"][0]["state"] == "silent"), True)
+        found += differs("its links", [gateway.json("/v1/members")["members"][0][it] for it in ("in", "out")], [0, 0])
         found += differs("three are enough", soon(lambda: gateway.json("/ready") == {"ready": True}), True)
         found += decide(gateway, 8, 12)
         found += differs("a transcript of the others", transcript(gateway, 9)[0], 200)
@@ -712,6 +713,30 @@ def places_are_given_back(folder, port):
         # Who has left is missed with the next event or beat.
         found += differs("140 followers, and one more once they are missed", (came, soon(lambda: follows() == 200, 12)), ({200}, True))
         return found + differs(f"a slow head ({took.result():.1f} s)", 8 < took.result() < 16, True)
+
+
+@check
+def who_is_one_too_many_is_told(folder, port):
+    """The 65th follower is told 503, the 65th proposal at once and the second transcript at once 429."""
+    with clusters(folder, port) as cluster, gateways(cluster) as gateway, concurrent.futures.ThreadPoolExecutor(80) as pool:
+        soon(lambda: all_up(gateway), 20)
+        found = decide(gateway, 0, 2)
+        followers = [Events(gateway) for _ in range(64)]
+        found += differs("64 followers", {it.answer.status for it in followers}, {200})
+        found += differs("one more", gateway.ask("GET", "/v1/decisions")[::2], (503, b"{\"error\":\"busy\"}\n"))
+        for it in followers:
+            it.close()
+        # Members that don't answer hold what is asked of them.
+        for process in cluster.members.values():
+            process.send_signal(signal.SIGSTOP)
+        late = [it for it in pool.map(lambda it: gateway.propose(100 + it, 1), range(70)) if it[0] == 429]
+        # On a slow machine some come when others have ended.
+        found += differs(f"70 proposals at once ({late})", 1 <= len(late) <= 6 and all(it[1] == {"error": "busy"} for it in late), True)
+        said = sorted(it[0] for it in pool.map(lambda _: transcript(gateway, 0), range(3)))
+        found += differs(f"three transcripts at once ({said})", said.count(429) in (1, 2), True)
+        for process in cluster.members.values():
+            process.send_signal(signal.SIGCONT)
+        return found + differs("all is well behind them", soon(lambda: all_up(gateway), 20), True)
 
 
 @check

@@ -4,7 +4,7 @@
 Tries both pages of the program in headless Chromium: `bracha simulate --page` with worked scripts and with drawn ones, against the
 object that tests/reference/page.py makes of the trace, and the page of a cluster against made-up gateways. PROGRAM is
 crates/bracha/out/bracha unless another is named. Needs Debian's chromium, which is installed if CI is set and it is missing; it
-takes the ports 28300 to 28309 and half a minute. With PAGES_PICTURES=FOLDER it leaves pictures there. Prints what is wrong, and in
+takes the ports 28300 to 28309 and a minute. With PAGES_PICTURES=FOLDER it leaves pictures there. Prints what is wrong, and in
 its last line `N passed, M failed`; the status is 1 where M isn't 0.
 """
 import contextlib
@@ -258,6 +258,20 @@ def check_gone(checks, chromium, port):
             checks.same("gone: console", tab.faults(allowed=["ERR_CONNECTION_REFUSED", "ERR_INCOMPLETE_CHUNKED", "ERR_CONNECTION_RESET", "ERR_EMPTY_RESPONSE"]), [])
 
 
+def check_silent(checks, chromium, port):
+    """A stream that stays open and tells nothing: the page loads the squares anew. A cluster's number is shown whole."""
+    url, decided = f"http://127.0.0.1:{port}/", f"{STATE}.tally[0] + {STATE}.tally[1]"
+    with gateway(port, "--rate", "2", "--done", "0", "--quiet-members", "--cluster", str(2 ** 63 - 1)):
+        with contextlib.closing(chromium.page(url)) as tab:
+            name = f'document.getElementById("name").textContent === "bracha cluster {2 ** 63 - 1}"'
+            checks.same("silent: its number", tab.until(f"{READY} && {name}"), True)
+            checks.same("silent: decisions", tab.until(f"{decided} > 0"), True)
+            checks.same("silent: muted", post(url + "fake/mute", {}), 200)
+            before = tab.run(decided)
+            checks.same("silent: loaded anew", tab.until(f"{decided} > {before} + 4", 30), True)
+            checks.same("silent: console", tab.faults(), [])
+
+
 def check_hostile(checks, chromium, port):
     """A gateway that tells markup, wrong types and numbers out of range."""
     with gateway(port, "--n", "7", "--questions", "2048", "--rate", "5", "--hostile"):
@@ -292,6 +306,7 @@ def check_pages(checks, chromium, folder):
     check_propose(checks, chromium, 28302, folder)
     check_gone(checks, chromium, 28303)
     check_hostile(checks, chromium, 28304)
+    check_silent(checks, chromium, 28305)
 
 
 def main():

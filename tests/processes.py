@@ -277,6 +277,18 @@ def closed_streams_leave_files_alone(folder, port):
             expect("the files", {it: read(folder, it) for it in os.listdir(folder)}, put)
 
 
+@check
+def a_status_is_told_without_words(folder, _):
+    """Where standard error is full the status is that of what is wrong; where help can't be printed, that is wrong."""
+    write(folder, "a", b"")
+    with open("/dev/full", "wb") as full:
+        for words, status in ((["nonsense"], 2), (["ask", "--timeout", "x", "127.0.0.1:1", "0"], 2), (["migrate", "a", "a"], 2), (["dump", "b"], 1)):
+            ran = subprocess.run([PROGRAM, *words], cwd=folder, stderr=full, stdout=subprocess.PIPE, check=False)
+            expect(f"{words}: status", ran.returncode, status)
+        ran = subprocess.run([PROGRAM, "--help"], cwd=folder, stdout=full, stderr=subprocess.PIPE, check=False)
+        expect("--help", (ran.returncode, ran.stderr.splitlines()[:1]), (1, [b"bracha: stream"]))
+
+
 @contextlib.contextmanager
 def desk_at(port):
     """A desk that this script plays."""
