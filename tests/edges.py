@@ -28,6 +28,7 @@ import time
 TOP = os.path.dirname(os.path.dirname(os.path.realpath(__file__)))
 PROGRAM = os.path.realpath(sys.argv[1] if len(sys.argv) > 1 else f"{TOP}/crates/bracha/out/bracha")
 IDLE = b"\x00\x01\x00"
+AT_ONCE = 12
 CHECKS = []
 
 
@@ -1917,29 +1918,39 @@ def who_listens_elsewhere_decides(folder, port):
     return found
 
 
-def main():
-    resource.setrlimit(resource.RLIMIT_NOFILE, (4096, resource.getrlimit(resource.RLIMIT_NOFILE)[1]))
-    room = tempfile.mkdtemp(prefix="bracha-edges-")
-
-    def play(number):
-        function = CHECKS[number]
-        folder = f"{room}/{function.__name__}"
-        os.makedirs(folder)
+def play(name):
+    """Plays that check in this process, and prints what is wrong."""
+    number, function = next((number, it) for number, it in enumerate(CHECKS) if it.__name__ == name)
+    hard = resource.getrlimit(resource.RLIMIT_NOFILE)[1]
+    resource.setrlimit(resource.RLIMIT_NOFILE, (min(4096, hard), hard))
+    with tempfile.TemporaryDirectory(prefix="bracha-edges-") as room:
+        os.makedirs(folder := f"{room}/{name}")
         try:
-            return function(folder, 28400 + 20 * number)
+            wrong = function(folder, 28400 + 20 * number)
         except Exception as error:  # pylint: disable=broad-except
-            return [f"{type(error).__name__}: {error}"]
+            wrong = [f"{type(error).__name__}: {error}"]
+    for line in wrong:
+        print(f"{name}: {line}")
+    return 1 if wrong else 0
+
+
+def main():
+    names = [it.__name__ for it in CHECKS if it.__name__ in sys.argv[2:] or not sys.argv[2:]]
+    if len(names) == 1:
+        return play(names[0])
+
+    # A process each, and few at once: what one of them floods or decides must not make another one's desks slow.
+    def in_a_process(name):
+        return subprocess.run([sys.executable, os.path.realpath(__file__), PROGRAM, name], stdout=subprocess.PIPE, text=True, check=False)
 
     failed = 0
-    with concurrent.futures.ThreadPoolExecutor(len(CHECKS)) as pool:
-        for function, wrong in zip(CHECKS, pool.map(play, range(len(CHECKS)))):
-            failed += 1 if wrong else 0
-            for line in wrong:
-                print(f"{function.__name__}: {line}")
-    shutil.rmtree(room)
-    print(f"{len(CHECKS) - failed} passed, {failed} failed")
-    sys.exit(1 if failed else 0)
+    with concurrent.futures.ThreadPoolExecutor(AT_ONCE) as pool:
+        for ran in pool.map(in_a_process, names):
+            failed += 1 if ran.returncode else 0
+            print(ran.stdout, end="")
+    print(f"{len(names) - failed} passed, {failed} failed")
+    return 1 if failed else 0
 
 
 if __name__ == "__main__":
-    main()
+    sys.exit(main())
