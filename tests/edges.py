@@ -1,10 +1,11 @@
 #!/usr/bin/env python3
-"""tests/edges.py [PROGRAM]
+"""tests/edges.py [PROGRAM [CHECK..]]
 
 Looks at the edges of the built program for what a user would suffer from and no contract says: how long a client waits, which
 statuses commands end with, whose links a member takes, what it opens and says more often than it should, what a command leaves
-behind. PROGRAM is crates/bracha/out/bracha unless another is named. It takes the ports 28400 to 29559, a C
-compiler and a minute, with all checks side by side. Prints what is wrong, and in its last line `N passed, M failed`; the status is 1 where M isn't 0.
+behind. Plays the checks that are named, else all. PROGRAM is crates/bracha/out/bracha unless another is named. It takes the ports
+28400 to 29559, a C compiler, and a minute and a half, with a process for each check and a dozen at a time. Prints what is wrong, and in
+its last line `N passed, M failed`; the status is 1 where M isn't 0.
 """
 import concurrent.futures
 import contextlib
@@ -1935,13 +1936,18 @@ def play(name):
 
 
 def main():
-    names = [it.__name__ for it in CHECKS if it.__name__ in sys.argv[2:] or not sys.argv[2:]]
-    if len(names) == 1:
-        return play(names[0])
+    if sys.argv[2:3] == ["--alone"]:
+        return play(sys.argv[3])
+    known = [it.__name__ for it in CHECKS]
+    names = sys.argv[2:] or known
+    if not set(names) <= set(known):
+        print(f"no such check: {' '.join(sorted(set(names) - set(known)))}", file=sys.stderr)
+        return 2
 
     # A process each, and few at once: what one of them floods or decides must not make another one's desks slow.
     def in_a_process(name):
-        return subprocess.run([sys.executable, os.path.realpath(__file__), PROGRAM, name], stdout=subprocess.PIPE, text=True, check=False)
+        words = [sys.executable, os.path.realpath(__file__), PROGRAM, "--alone", name]
+        return subprocess.run(words, stdout=subprocess.PIPE, text=True, check=False)
 
     failed = 0
     with concurrent.futures.ThreadPoolExecutor(AT_ONCE) as pool:
