@@ -14,7 +14,7 @@ use Rattle.desk.specs.declared.serving.DeskEnd.TheVariants as end
 use Rattle.desk.specs.Replies.{reply_text}
 use Rattle.desk.specs.Commands.{Parses, command_for}
 use Rattle.desk.specs.Sessions.{Sitting, AnswersRequest, AnswersLine, IsLine, Exchange, IsExchange, InTurn, AllGoOn, GoesOn, asked_in, replied_in, exchanged, BeginsRequest, BeginsToFollow, EndsBy, IsTooLong, LosesReplies, Serves, ServesTogether}
-use Rattle.desk.specs.Lines.{AsksToFollow, IsRequest}
+use Rattle.desk.specs.Lines.{AsksToFollow, IsOfBrowser}
 use Rattle.desk.specs.Turns.{Says, FailsToSay, Leaves, Refuses, IsLeft, Serving}
 use Rattle.desk.proofs.Holding.{nothing_broke}
 
@@ -220,16 +220,16 @@ module _ {S : Type 0} (Replies : S → List ℕ → Reply → S → Type 0) wher
       let is = is_too_long held more byte s.is_line other long in
       refused before after old now new kept held (byte ∷ more) end.TooLong how s too_long_is_calm (inl is) (λ wrote. (is, refl, wrote)) said
 
-  -- a line was the first one of a request of HTTP
+  -- a line was one of a browser
   pub is_foreign : (before after : S) (old now new : Told) (kept held asked more : List ℕ) (byte : ℕ) (how : DeskEnd) → Serving Replies before after old now held (byte ∷ more)
-      → byte ≡ 10 → asked ≡ held → IsRequest asked → Refuses now new kept end.Request how → Leaves Replies before after old new kept how
+      → byte ≡ 10 → asked ≡ held → IsOfBrowser asked → Refuses now new kept end.Request how → Leaves Replies before after old new kept how
   is_foreign before after old now new kept held asked more byte how s is same request said =
       let begins : BeginsRequest (held ++ byte ∷ more) = record {
         asked = held;
         more = more;
         whole = ap (λ (b : ℕ). held ++ b ∷ more) is ∙ sym (append_assoc held (10 ∷ []) more);
         is_line = s.is_line;
-        request = subst (λ (l : List ℕ). IsRequest l) same request;
+        browser = subst (λ (l : List ℕ). IsOfBrowser l) same request;
       } in
       refused before after old now new kept held (byte ∷ more) end.Request how s request_is_calm (inr begins) (λ wrote. (begins, refl, wrote)) said
 

@@ -1,5 +1,5 @@
 -- What the lines of clients ask.
-use Rattle.std.specs.Prelude.{ℕ, ◌≡◌, ◌-◌, ◌<◌, ◌≤◌, ◌==◌, Bool, false, true, Option, Some, None, List, [], ◌∷◌, ◌++◌, codes, length, take, slice_get, if◌then◌else◌}
+use Rattle.std.specs.Prelude.{ℕ, ◌≡◌, ◌⊎◌, ◌-◌, ◌<◌, ◌≤◌, ◌==◌, Bool, false, true, Option, Some, None, List, [], ◌∷◌, ◌++◌, codes, length, take, slice_get, if◌then◌else◌}
 use Rattle.std.specs.Str.Parse.{IsNumeral, digits_value}
 use Rattle.numerals.specs.Spaces.{NoSpace}
 use Rattle.desk.specs.declared.line.LineRequest.{LineRequest}
@@ -91,6 +91,15 @@ pub record IsRequest (line : List ℕ) : Type 0 where
   pub front : List ℕ
   pub minor : ℕ
   pub whole : trimmed line ≡ front ++ (codes " HTTP/1." ++ minor ∷ [])
+
+-- the line begins with the first two bytes of a handshake of TLS, and is no line of a client's either
+pub record IsHandshake (line : List ℕ) : Type 0 where
+  pub more : List ℕ
+  pub whole : line ≡ 22 ∷ 3 ∷ more
+
+-- A browser sends the line, before any that a page or a server chose.
+abbrev pub IsOfBrowser : List ℕ → Type 0
+IsOfBrowser line = IsRequest line ⊎ IsHandshake line
 
 -- the line asks for decisions from that number on, of one to five decimal digits
 pub record AsksToFollow (line : List ℕ) (number : ℕ) : Type 0 where

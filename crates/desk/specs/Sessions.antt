@@ -15,7 +15,7 @@ use Rattle.node.specs.declared.transcript.Transcript.{Transcript as Text}
 use Rattle.terms_prelude.specs.Terms.{Header, Record}
 use Rattle.links.specs.Told.{Told, has_written, has_failed, has_ended, BreaksOff}
 use Rattle.member.specs.Readers.{member_is_stopped}
-use Rattle.desk.specs.Lines.{AsksToFollow, LineAsks, IsRequest}
+use Rattle.desk.specs.Lines.{AsksToFollow, LineAsks, IsOfBrowser}
 use Rattle.desk.specs.Commands.{AsksNothing, command_for}
 use Rattle.desk.specs.Answers.{IsTranscriptReply, Proposes, links_reply, state_reply, status_reply, verdict_reply}
 use Rattle.desk.specs.Replies.{reply_text}
@@ -179,16 +179,16 @@ abbrev pub IsLastLine : {S : Type 0} → (S → List ℕ → Reply → S → Typ
 IsLastLine Replies before rest reply after =
     (0 < length rest) × IsExchange Replies before (record { asked = rest; reply = reply }) after
 
--- the rest begins with a line that is the first one of a request of HTTP
+-- the rest begins with a line of a browser
 pub record BeginsRequest (rest : List ℕ) : Type 0 where
   pub asked : List ℕ
   pub more : List ℕ
   pub whole : rest ≡ line asked ++ more
   pub is_line : IsLine asked
-  pub request : IsRequest asked
+  pub browser : IsOfBrowser asked
 
 -- This reply is owed for the rest, where the stream tells `now`: the rest begins with a line, or with one that is too long or
--- a request of HTTP, or it is the last line of an input that ended.
+-- of a browser, or it is the last line of an input that ended.
 abbrev pub Owes : {S : Type 0} → (S → List ℕ → Reply → S → Type 0) → S → Told → List ℕ → Told → Reply → S → Type 0
 Owes Replies before served rest now reply after =
     ((asked : List ℕ) × (more : List ℕ) × (rest ≡ line asked ++ more)
@@ -213,7 +213,7 @@ EndsBy Replies before served rest now end.Ended after =
 -- a line was too long, and was answered so
 EndsBy Replies before served rest now end.TooLong after =
     IsTooLong rest × (after ≡ before) × (now ≡ has_written served (line (reply_text BadLine)))
--- a line was the first one of a request of HTTP, and was answered so
+-- a line was one of a browser, and was answered so
 EndsBy Replies before served rest now end.Request after =
     BeginsRequest rest × (after ≡ before) × (now ≡ has_written served (line (reply_text BadLine)))
 -- a line asked for decisions from a number on, and nothing was written for it
@@ -224,9 +224,9 @@ EndsBy Replies before served rest now end.Lost after =
     (IsLine rest × (after ≡ before) × (now ≡ has_failed served))
     ⊎ ((told : Told) × (reply : Reply) × Owes Replies before served rest told reply after × BreaksOff told now (line (reply_text reply)))
 
--- a line behind which the session goes on: no request of HTTP, and none that follows decisions
+-- a line behind which the session goes on: none of a browser, and none that follows decisions
 pub record GoesOn (asked : List ℕ) : Type 0 where
-  pub no_request : IsRequest asked → ⊥
+  pub no_browser : IsOfBrowser asked → ⊥
   pub no_follower : (number : ℕ) → AsksToFollow asked number → ⊥
 
 abbrev pub AllGoOn : List Exchange → Type 0

@@ -15,7 +15,7 @@ use crate::command::{Command, parse};
 use crate::held::{LineStep, Sheet};
 use crate::line::follows;
 use crate::reply::Reply;
-use crate::request::is_request;
+use crate::request::is_of_browser;
 use crate::turns::{Turn, Turns};
 use crate::writing::{write_held, write_reply};
 use disk::Disk;
@@ -38,8 +38,9 @@ pub enum DeskEnd {
     Lost,
     /// A line had more than 4,096 bytes, which was answered by [`Reply::BadLine`].
     TooLong,
-    /// A line was the first one of a request of HTTP, which was answered by [`Reply::BadLine`]: a
-    /// page in a browser sends it before lines of its own, and these are not read.
+    /// A line was the first one of a request of HTTP, or of a handshake of TLS, which was answered
+    /// by [`Reply::BadLine`]: a browser sends it before lines that a page or a server chose, and
+    /// these are not read.
     Request,
     /// A line asked to follow decisions from this number on. Nothing was written for it: a
     /// [`Follower`](crate::Follower) is told them from now on, and no line behind it is answered.
@@ -59,8 +60,8 @@ pub struct Desk<'a, D: Disk, J: Naming> {
     pub turns: &'a Turns,
 }
 
-/// Answers the lines of a client in turn, until its input ends, a line is too long or begins a
-/// request of HTTP, one asks to follow decisions, or the stream fails.
+/// Answers the lines of a client in turn, until its input ends, a line is too long or one of a
+/// browser, one asks to follow decisions, or the stream fails.
 ///
 /// A line ends at the byte 10, and bytes behind the last one are a line too. The replies to the
 /// lines of one read are held, at most 4,096 bytes of them, and written together: before the next
@@ -219,7 +220,7 @@ impl<D: Disk, J: Naming, R: Wait + Clock> Server<'_, D, J, R> {
         match sheet.line.read(byte) {
             LineStep::More => Ok(()),
             LineStep::Ends => {
-                if is_request(sheet.line.line()) {
+                if is_of_browser(sheet.line.line()) {
                     return Err(refuse(stream, &mut sheet.replies, DeskEnd::Request));
                 }
                 match follows(sheet.line.line()) {

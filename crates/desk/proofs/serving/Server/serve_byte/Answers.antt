@@ -1,7 +1,7 @@
 use Rattle.std.proofs.Common.{◌≡◌, ◌∙◌, subst, sym, inr, true≢false}
 use Rattle.std.proofs.lemmas.Result.{on_ok_weaker, IfErr-weaker}
 use Rattle.links.specs.Told.{has_written}
-use Rattle.desk.specs.Lines.{AsksToFollow, IsRequest}
+use Rattle.desk.specs.Lines.{AsksToFollow, IsOfBrowser}
 use Rattle.desk.specs.Sessions.{AnswersLine, GoesOn, sitting}
 use Rattle.desk.proofs.Exchanging.{followed, holds_on, ends_line, ends_line_lost, is_foreign, too_long}
 use Rattle.desk.proofs.serving.Server.serve_byte.Goals as goal
@@ -15,7 +15,7 @@ returns-in-More-clause-on g c = λ more begun old s.
 pub returns-in-None-clause-on : goal.returns-in-None-clause-on
 returns-in-None-clause-on g c =
     let ours : GoesOn c.args.sheet.now.line = record {
-      no_request = λ is. true≢false (sym (c.is_request.ensures.1 (subst (λ l. IsRequest l) (sym (c.line.ensures ∙ c.in-Ends.ensures.1)) is)) ∙ c.if-is_request.false);
+      no_browser = λ is. true≢false (sym (c.is_of_browser.ensures.1 (subst (λ l. IsOfBrowser l) (sym (c.line.ensures ∙ c.in-Ends.ensures.1)) is)) ∙ c.if-is_of_browser.false);
       no_follower = λ number asks. c.in-None.ensures.none number (subst (λ l. AsksToFollow l number) (sym (c.line-in-Ends.ensures ∙ c.in-Ends.ensures.1)) asks);
     } in
     on_ok_weaker c.answer_held.result
@@ -35,11 +35,11 @@ returns-in-None-clause-off g c =
     ))
     c.answer_held.ensures.err
 
-pub returns-then-is_request-clause-off : goal.returns-then-is_request-clause-off
-returns-then-is_request-clause-off g c = λ more begun old s.
+pub returns-then-is_of_browser-clause-off : goal.returns-then-is_of_browser-clause-off
+returns-then-is_of_browser-clause-off g c = λ more begun old s.
     is_foreign (AnswersLine g.row.D.Denot g.T.Tosser.may_toss c.args.self.now.hub.now g.J.Naming.opening) begun (sitting c.args.pass.now c.args.tosser.now)
     old (has_written (g.S.Stream.told c.args.stream.now) c.args.sheet.now.replies.items) (g.S.Stream.told c.refuse.new.stream) c.refuse.new.held.items c.args.sheet.now.line c.line.result.now more c.args.byte c.refuse.result s
-    c.in-Ends.ensures.0 (c.line.ensures ∙ c.in-Ends.ensures.1) (c.is_request.ensures.0 c.if-is_request.true) c.refuse.ensures
+    c.in-Ends.ensures.0 (c.line.ensures ∙ c.in-Ends.ensures.1) (c.is_of_browser.ensures.0 c.if-is_of_browser.true) c.refuse.ensures
 
 pub returns-in-TooLong-clause-off : goal.returns-in-TooLong-clause-off
 returns-in-TooLong-clause-off g c = λ more begun old s.
