@@ -5,7 +5,7 @@ use Rattle.std.proofs.lemmas.Bool.Decides.{Decides-eqb}
 use Rattle.toml.specs.Data.{Members}
 use Rattle.terms_prelude.specs.Terms.{Size, size_fault, SizeFault}
 use Rattle.settings.specs.Words.{Address, Chain, ClientEntries, ClientSettings, Cluster, Desks, FitsClientEntries, GivesClients, HasAddresses, HasNumber, HasNumbers, IsClientFault, IsClientMisfit, IsClientSettings, IsOfMany, Key, MayHaveFlag, N, Questions, SaysClientEntries, SettingsFault, T, AllSuit, client_keys, size_or, unfit_client}
-use Rattle.settings.specs.Clients.{AreDesksOf, IsLikeClient, are_desks_of, desks_misfit, stands_twice}
+use Rattle.settings.specs.Clients.{AreDesksOf, IsLikeClient, IsUnwrittenClient, are_desks_of, desks_misfit, stands_twice}
 use Rattle.settings.specs.Settings.{HasSmall}
 use Rattle.settings.specs.declared.fault.SettingsFault.TheVariants as fault
 use Rattle.settings.proofs.Addressing.{list_same}
@@ -148,3 +148,8 @@ clients_alike (Some ms) read s like g = record {
   apart = sym (ap stands_twice like.desks) ∙ g.apart;
   chain = subst (λ (flag : Bool). MayHaveFlag ms Chain flag) like.chain g.chain;
 }
+
+-- settings that are read as others aren't written
+pub of_other_clients : (read_of document : Option Members) (read s : ClientSettings) → read_of ≡ document → IsClientSettings read_of read → (IsLikeClient read s → ⊥)
+    → IsUnwrittenClient document s fault.Text
+of_other_clients read_of document read s is given unlike = inr (inl (refl, (read, subst (λ (d : Option Members). IsClientSettings d read) is given, unlike)))

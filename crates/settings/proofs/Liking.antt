@@ -1,5 +1,5 @@
 -- Settings that are read as those that were written.
-use Rattle.std.proofs.Common.{ℕ, ◌≡◌, ◌<◌, ◌==◌, ◌&&◌, Bool, true, List, Option, Some, None, subst, ap, refl, ◌∙◌, sym, length, eqb}
+use Rattle.std.proofs.Common.{ℕ, ◌≡◌, ◌<◌, ◌==◌, ◌&&◌, ◌⊎◌, inl, inr, Bool, true, List, Option, Some, None, subst, ap, refl, ◌∙◌, sym, length, eqb}
 use Rattle.std.specs.Bool.{Decides}
 use Rattle.std.specs.Cmp.Lexicographic.{pointwise}
 use Rattle.std.proofs.lemmas.Bool.Decides.{Decides-and, Decides-eqb}
@@ -8,7 +8,8 @@ use Rattle.terms_prelude.specs.Terms.{Header, size_fault}
 use Rattle.toml.specs.Data.{Members}
 use Rattle.settings.specs.Words.{Address, Settings, Cluster, N, T, Questions, Me, Journal, Peers, Desk, Seed, Listen, DeskSocket, Epochs, HasNumber, HasPath, HasAddress, HasAddresses, GivesSettings, IsSettings, MayHaveAddress, MayHavePath}
 use Rattle.settings.specs.Settings.{HasSmall, HasSeed}
-use Rattle.settings.specs.Texts.{IsLike}
+use Rattle.settings.specs.Texts.{IsLike, IsUnwritten}
+use Rattle.settings.specs.declared.fault.SettingsFault.TheVariants as fault
 
 -- `==` of two addresses
 abbrev pub address_eq : Address → Address → Bool
@@ -48,3 +49,11 @@ gives_like ms read s like g = record {
 pub given_alike : (document : Option Members) (read s : Settings) → IsLike read s → IsSettings document read → IsSettings document s
 given_alike None read s like given = given
 given_alike (Some ms) read s like given = gives_like ms read s like given
+
+-- and it finds those that are
+pub all_same_addresses : (xs ys : List Address) (r : Bool) → r ≡ pointwise address_eq xs ys → xs ≡ ys → r ≡ true
+all_same_addresses xs ys r is same = (slice_eq-Decides address_decides xs ys r is).1 same
+
+-- settings that are read as others aren't written
+pub of_others : (read_of document : Option Members) (read s : Settings) → read_of ≡ document → IsSettings read_of read → (IsLike read s → ⊥) → IsUnwritten document s fault.Text
+of_others read_of document read s is given unlike = inr (inl (refl, (read, subst (λ (d : Option Members). IsSettings d read) is given, unlike)))

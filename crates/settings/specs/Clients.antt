@@ -1,5 +1,5 @@
 -- What the members of a TOML table say of a client's settings, and the first thing that is wrong with them.
-use Rattle.std.specs.Prelude.{ℕ, ◌≡◌, ◌<◌, ◌==◌, ◌&&◌, eqb, filter, nat_lt, not, Bool, true, false, Option, Some, None, List, [], ◌∷◌, ◌++◌, codes, length, if◌then◌else◌}
+use Rattle.std.specs.Prelude.{ℕ, ◌≡◌, ◌⊎◌, ◌<◌, ◌==◌, ◌&&◌, eqb, filter, nat_lt, not, Bool, true, false, Option, Some, None, List, [], ◌∷◌, ◌++◌, codes, length, if◌then◌else◌}
 use Rattle.std.specs.Cmp.Lexicographic.{pointwise}
 use Rattle.std.specs.List.{flat_map, list_any}
 use Rattle.toml.specs.Data.{Members}
@@ -111,3 +111,11 @@ pub record IsLikeClient (read s : ClientSettings) : Type 0 where
   pub size : read.size ≡ s.size
   pub desks : read.desks.items ≡ s.desks.items
   pub chain : read.chain ≡ s.chain
+
+-- a document gives other settings than these
+abbrev pub IsOfOtherClients : Option Members → ClientSettings → Type 0
+IsOfOtherClients document s = (read : ClientSettings) × IsClientSettings document read × (IsLikeClient read s → ⊥)
+
+-- why settings aren't written as a text that is this document: it is at fault, it gives others, or memory was refused
+abbrev pub IsUnwrittenClient : Option Members → ClientSettings → SettingsFault → Type 0
+IsUnwrittenClient document s ends = IsClientFault document ends ⊎ (((ends ≡ fault.Text) × IsOfOtherClients document s) ⊎ (ends ≡ fault.Memory))

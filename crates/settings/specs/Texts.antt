@@ -1,10 +1,14 @@
 -- The text of settings, as `new-cluster` writes it.
-use Rattle.std.specs.Prelude.{ℕ, ◌≡◌, List, ◌∷◌, ◌++◌, [], Option, None, Some, codes, get_or, option_map, string_bytes}
+use Rattle.std.specs.Prelude.{ℕ, ◌≡◌, ◌⊎◌, List, ◌∷◌, ◌++◌, [], Option, None, Some, codes, get_or, option_map, string_bytes}
 use Rattle.std.specs.List.{flat_map}
 use Rattle.std.specs.Fmt.{decimal}
 use Rattle.hex.specs.Hex.{encode_lower}
 use Rattle.terms_prelude.specs.Terms.{Header, Size}
+use Rattle.toml.specs.Data.{Members}
 use Rattle.settings.specs.Keys.{key_text}
+use Rattle.settings.specs.Settings.{IsFault, IsSettings}
+use Rattle.settings.specs.declared.fault.SettingsFault.{SettingsFault}
+use Rattle.settings.specs.declared.fault.SettingsFault.TheVariants as fault
 use Rattle.settings.specs.declared.address.Address.{Address}
 use Rattle.settings.specs.declared.keys.Key.{Key}
 use Rattle.settings.specs.declared.keys.Key.TheVariants.{Cluster, Desk, DeskSocket, Epochs, Journal, Listen, Me, N, Questions, Seed, T}
@@ -73,3 +77,11 @@ pub record IsLike (read s : Settings) : Type 0 where
   pub listen : read.listen ≡ s.listen
   pub desk_socket : option_map string_bytes read.desk_socket ≡ option_map string_bytes s.desk_socket
   pub epochs : option_map string_bytes read.epochs ≡ option_map string_bytes s.epochs
+
+-- a document gives other settings than these
+abbrev pub IsOfOthers : Option Members → Settings → Type 0
+IsOfOthers document s = (read : Settings) × IsSettings document read × (IsLike read s → ⊥)
+
+-- why settings aren't written as a text that is this document: it is at fault, it gives others, or memory was refused
+abbrev pub IsUnwritten : Option Members → Settings → SettingsFault → Type 0
+IsUnwritten document s ends = IsFault document ends ⊎ (((ends ≡ fault.Text) × IsOfOthers document s) ⊎ (ends ≡ fault.Memory))

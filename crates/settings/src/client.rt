@@ -1,8 +1,8 @@
 //! The settings of a client of a cluster.
 
-ghost use Rattle.std.specs.Prelude.{◌≡◌, ◌⊎◌, IfOk, IfErr, IfSome, IsTrue, string_bytes};
+ghost use Rattle.std.specs.Prelude.{◌≡◌, ◌⊎◌, ◌↔◌, IfOk, IfErr, IfSome, IsTrue, string_bytes};
 ghost use Rattle.toml.specs.Parse.{parse_document};
-ghost use Rattle.settings.specs.Clients.{IsLikeClient, chain_line, client_text};
+ghost use Rattle.settings.specs.Clients.{IsLikeClient, IsUnwrittenClient, chain_line, client_text};
 
 use crate::address::Address;
 use crate::client_entries::ClientEntries;
@@ -83,6 +83,8 @@ impl ClientSettings {
         ensures text { IfOk result (λ text. string_bytes text ≡ client_text self.now) }
         ensures read { IfOk result
             (λ text. IsClientSettings (parse_document (string_bytes text)) self.now) }
+        ensures fault { IfErr result
+            (IsUnwrittenClient (parse_document (client_text self.now)) self.now) }
     {
         let text = client_text(alloc, self)?;
         let read = ClientSettings::parse(alloc, text.as_str())?;
@@ -117,7 +119,8 @@ fn chain_line(alloc: Global, chain: bool) -> Result<String, AllocError>
 
 /// Returns `true` if what was read is what was to be written.
 fn is_like_client(read: &ClientSettings, settings: &ClientSettings) -> bool
-    ensures { IsTrue result → IsLikeClient read.now settings.now }
+    ensures yes { IsTrue result → IsLikeClient read.now settings.now }
+    ensures no { IsLikeClient read.now settings.now → IsTrue result }
 {
     read.cluster == settings.cluster
         && read.size == settings.size
@@ -127,7 +130,7 @@ fn is_like_client(read: &ClientSettings, settings: &ClientSettings) -> bool
 
 /// Returns `true` if the two have the same desks.
 fn has_same_desks(read: &ClientSettings, settings: &ClientSettings) -> bool
-    ensures { IsTrue result → read.now.desks.items ≡ settings.now.desks.items }
+    ensures { IsTrue result ↔ (read.now.desks.items ≡ settings.now.desks.items) }
 {
     read.desks.as_slice() == settings.desks.as_slice()
 }

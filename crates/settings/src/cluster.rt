@@ -1,6 +1,6 @@
 //! The settings of the members of a new cluster.
 
-ghost use Rattle.std.specs.Prelude.{◌≡◌, ◌+◌, ◌<◌, ◌≤◌, IfOk, IfSome, Some};
+ghost use Rattle.std.specs.Prelude.{ℕ, ◌≡◌, ◌≢◌, ◌+◌, ◌<◌, ◌≤◌, ◌⊎◌, List, IfErr, IfOk, IfSome, IsSome, None, Some, length};
 ghost use Rattle.settings.specs.Addresses.{IsHost};
 ghost use Rattle.settings.specs.Clusters.{AreInRow, IsNewSettings, desk_gap};
 ghost use Rattle.numerals.specs.Sentences.{texts};
@@ -27,27 +27,46 @@ pub fn addresses_from(
     hosts: &[&str],
     first: u16,
 ) -> Result<Option<Vec<Address>>, AllocError>
-    ensures { IfOk result
+    ensures row { IfOk result
         (λ found. IfSome found (λ addresses. AreInRow first (texts hosts.now) addresses.items)) }
+    ensures found { first + length hosts.now ≤ 65536 → (addresses : List Address) →
+        AreInRow first (texts hosts.now) addresses → IfOk result IsSome }
 {
     let mut addresses = Vec::new(alloc);
     for host in hosts {
-        let Some(address) = address_at(host, first, addresses.len()) else {
-            return Ok(None);
-        };
-        addresses.push(address)?;
+        match address_at(host, first, addresses.len()) {
+            Some(address) => addresses.push(address)?,
+            None => return Ok(None),
+        }
     }
     Ok(Some(addresses))
 }
 
 /// The address of the member of that number, at this host.
 fn address_at(host: &str, first: u16, member: usize) -> Option<Address>
-    ensures { IfSome result
+    ensures some { IfSome result
         (λ address. IsHost host.now address.octets × (address.port ≡ first + member)) }
+    ensures found { first + member < 65536 → (octets : List ℕ) → IsHost host.now octets →
+        IsSome result }
 {
-    let octets = octets(host)?;
-    let port = first.checked_add(u16::try_from(member).ok()?)?;
-    Some(Address { octets, port })
+    match octets(host) {
+        Some(octets) => match port_at(first, member) {
+            Some(port) => Some(Address { octets, port }),
+            None => None,
+        },
+        None => None,
+    }
+}
+
+/// The port so many behind the first, if there is one.
+fn port_at(first: u16, member: usize) -> Option<u16>
+    ensures some { IfSome result (λ port. port ≡ first + member) }
+    ensures found { first + member < 65536 → result ≢ None }
+{
+    let Ok(member) = u16::try_from(member) else {
+        return None;
+    };
+    first.checked_add(member)
 }
 
 /// Returns the port of the first member's desk in a new cluster of `n` members whose links are at
@@ -89,7 +108,10 @@ pub fn new_settings(
     desks: &[Address],
     seed: [u8; 32],
 ) -> Result<Settings, SettingsFault>
-    ensures { IfOk result (IsNewSettings header links.now desks.now seed) }
+    ensures new { IfOk result (IsNewSettings header links.now desks.now seed) }
+    ensures fault { IfErr result
+        (λ ends. ((ends ≡ SettingsFault.Key Key.Me) × (length desks.now ≤ header.me))
+        ⊎ (ends ≡ SettingsFault.Memory)) }
 {
     let Some(desk) = desks.get(usize::from(header.me())) else {
         return Err(SettingsFault::Key(Key::Me));

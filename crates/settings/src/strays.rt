@@ -1,6 +1,6 @@
 //! Keys of a text of settings that are none of a member's, or stand in a table: they are ignored.
 
-ghost use Rattle.std.specs.Prelude.{◌≡◌, ◌++◌, IfOk, map, string_bytes};
+ghost use Rattle.std.specs.Prelude.{◌≡◌, ◌⊎◌, ◌++◌, IfErr, IfOk, None, map, string_bytes};
 ghost use Rattle.toml.specs.Parse.{parse_document};
 ghost use Rattle.toml.specs.View.{table_view, view};
 ghost use Rattle.settings.specs.Strays.{AreStrays, alone, inside, is_known, named, strays_at, strays_in};
@@ -28,7 +28,10 @@ pub struct Stray {
 /// - [`SettingsFault::Text`] if the text isn't TOML;
 /// - [`SettingsFault::Memory`] if an allocation failed.
 pub fn strays_of(alloc: Global, text: &str) -> Result<Vec<Stray>, SettingsFault>
-    ensures { IfOk result (λ strays. AreStrays (parse_document text.now) strays.items) }
+    ensures all { IfOk result (λ strays. AreStrays (parse_document text.now) strays.items) }
+    ensures fault { IfErr result
+        (λ ends. ((ends ≡ SettingsFault.Text) × (parse_document text.now ≡ None))
+        ⊎ (ends ≡ SettingsFault.Memory)) }
 {
     let table = table(alloc, text)?;
     Ok(strays_in(alloc, &table)?)

@@ -1,11 +1,11 @@
 //! The text of settings, as `new-cluster` writes it.
 
-ghost use Rattle.std.specs.Prelude.{◌≡◌, IfOk, IsTrue, List, option_map, string_bytes};
+ghost use Rattle.std.specs.Prelude.{◌≡◌, ◌↔◌, IfErr, IfOk, IsTrue, List, option_map, string_bytes};
 ghost use Rattle.std.specs.List.{flat_map};
 ghost use Rattle.toml.specs.Parse.{parse_document};
 ghost use Rattle.settings.specs.Settings.{IsSettings};
 ghost use Rattle.settings.specs.declared.keys.Key.TheVariants.{Listen};
-ghost use Rattle.settings.specs.Texts.{IsLike, address_text, head_text, number_line, option_line, options_text, own_text, peer_entry, sized_text, text_line, toml_text};
+ghost use Rattle.settings.specs.Texts.{IsLike, IsUnwritten, address_text, head_text, number_line, option_line, options_text, own_text, peer_entry, sized_text, text_line, toml_text};
 
 use crate::address::Address;
 use crate::document::Settings;
@@ -66,6 +66,7 @@ impl Settings {
         ensures text { IfOk result (λ text. string_bytes text ≡ toml_text self.now) }
         ensures read { IfOk result
             (λ text. IsSettings (parse_document (string_bytes text)) self.now) }
+        ensures fault { IfErr result (IsUnwritten (parse_document (toml_text self.now)) self.now) }
     {
         let text = toml_text(alloc, self)?;
         let read = Settings::parse(alloc, text.as_str())?;
@@ -161,7 +162,8 @@ fn text_line(alloc: Global, key: Key, value: &str) -> Result<String, AllocError>
 
 /// Returns `true` if what was read is what was to be written.
 fn is_like(read: &Settings, settings: &Settings) -> bool
-    ensures { IsTrue result → IsLike read.now settings.now }
+    ensures yes { IsTrue result → IsLike read.now settings.now }
+    ensures no { IsLike read.now settings.now → IsTrue result }
 {
     has_same_values(read, settings)
         && has_same_lists(read, settings)
@@ -173,6 +175,8 @@ fn has_same_values(read: &Settings, settings: &Settings) -> bool
     ensures header { IsTrue result → read.now.header ≡ settings.now.header }
     ensures desk { IsTrue result → read.now.desk ≡ settings.now.desk }
     ensures seed { IsTrue result → read.now.seed ≡ settings.now.seed }
+    ensures all { read.now.header ≡ settings.now.header → read.now.desk ≡ settings.now.desk →
+        read.now.seed ≡ settings.now.seed → IsTrue result }
 {
     read.header == settings.header && read.desk == settings.desk && read.seed == settings.seed
 }
@@ -182,6 +186,8 @@ fn has_same_lists(read: &Settings, settings: &Settings) -> bool
     ensures journal { IsTrue result →
         string_bytes read.now.journal ≡ string_bytes settings.now.journal }
     ensures peers { IsTrue result → read.now.peers.items ≡ settings.now.peers.items }
+    ensures all { string_bytes read.now.journal ≡ string_bytes settings.now.journal →
+        read.now.peers.items ≡ settings.now.peers.items → IsTrue result }
 {
     read.journal.as_str() == settings.journal.as_str()
         && read.peers.as_slice() == settings.peers.as_slice()
@@ -195,6 +201,11 @@ fn has_same_options(read: &Settings, settings: &Settings) -> bool
         ≡ option_map string_bytes settings.now.desk_socket }
     ensures epochs { IsTrue result →
         option_map string_bytes read.now.epochs ≡ option_map string_bytes settings.now.epochs }
+    ensures all { read.now.listen ≡ settings.now.listen →
+        option_map string_bytes read.now.desk_socket
+        ≡ option_map string_bytes settings.now.desk_socket →
+        option_map string_bytes read.now.epochs ≡ option_map string_bytes settings.now.epochs →
+        IsTrue result }
 {
     is_same_address(&read.listen, &settings.listen)
         && is_same_path(&read.desk_socket, &settings.desk_socket)
@@ -203,7 +214,7 @@ fn has_same_options(read: &Settings, settings: &Settings) -> bool
 
 /// Returns `true` if the two addresses are the same, or both are missing.
 fn is_same_address(read: &Option<Address>, address: &Option<Address>) -> bool
-    ensures { IsTrue result → read.now ≡ address.now }
+    ensures { IsTrue result ↔ (read.now ≡ address.now) }
 {
     match (read, address) {
         (None, None) => true,
@@ -214,7 +225,8 @@ fn is_same_address(read: &Option<Address>, address: &Option<Address>) -> bool
 
 /// Returns `true` if the two paths are the same, or both are missing.
 fn is_same_path(read: &Option<String>, path: &Option<String>) -> bool
-    ensures { IsTrue result → option_map string_bytes read.now ≡ option_map string_bytes path.now }
+    ensures { IsTrue result
+        ↔ (option_map string_bytes read.now ≡ option_map string_bytes path.now) }
 {
     match (read, path) {
         (None, None) => true,

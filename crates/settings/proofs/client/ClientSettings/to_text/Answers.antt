@@ -1,0 +1,11 @@
+use Rattle.std.proofs.Common.{◌≡◌, ◌∙◌, List, ℕ, ap, false, true}
+use Rattle.toml.specs.Parse.{parse_document}
+use Rattle.settings.specs.Clients.{client_text}
+use Rattle.settings.proofs.Clients.{of_other_clients}
+use Rattle.settings.proofs.client.ClientSettings.to_text.Goals as goal
+
+pub returns-else-is_like_client-clause-fault : goal.returns-else-is_like_client-clause-fault
+returns-else-is_like_client-clause-fault c =
+    of_other_clients (parse_document c.as_str.result.now) (parse_document (client_text c.args.self.now)) c.in_ok-read.read c.args.self.now
+    (ap (λ (bytes : List ℕ). parse_document bytes) (c.as_str.ensures.value ∙ c.in_ok-text.ensures)) c.in_ok-read.ensures.ok
+    (λ like. (let no : false ≡ true = c.if-is_like_client.ensures.no like in cc))
