@@ -1,6 +1,6 @@
 //! Members' words on one question, and what the commands over a whole cluster print of them.
 
-ghost use Rattle.std.specs.Prelude.{ℕ, List, [], ◌≡◌, ◌∷◌, ◌++◌, ◌↔◌, IfOk, IfSome, IsTrue, None, false, string_bytes, true};
+ghost use Rattle.std.specs.Prelude.{ℕ, Bool, List, [], ◌≡◌, ◌∷◌, ◌++◌, ◌↔◌, IfOk, IfSome, IsNone, IsTrue, None, false, string_bytes, true};
 ghost use Rattle.std.specs.Io.KnownBytes.{Appends};
 ghost use Rattle.commands.specs.Replies.{SaysSame};
 ghost use Rattle.commands.specs.Surveys.{IsTranscriptOf, IsWord, TakesPart, bit_number, bit_remark, later_word, next_of, next_of_other, one_remark, remark, remarks_from, status_for, transcript_head, zero_remark};
@@ -219,8 +219,11 @@ fn tell_either<W: Write>(
 
 /// Returns the bit of a text that begins as a transcript of this question; none if it doesn't.
 pub fn transcript_bit(alloc: Global, text: &[u8], question: u16) -> Result<Option<bool>, AllocError>
-    ensures { IfOk result
+    ensures some { IfOk result
         (λ found. IfSome found (λ bit. IsTranscriptOf question (bit_number bit) text.now)) }
+    ensures none { IfOk result
+        (λ found. IsNone found → (bit : Bool) → IsTranscriptOf question (bit_number bit) text.now →
+        ⊥) }
 {
     if is_transcript_of(alloc, text, question, 0)? {
         return Ok(Some(false));
@@ -233,7 +236,7 @@ pub fn transcript_bit(alloc: Global, text: &[u8], question: u16) -> Result<Optio
 
 /// Returns `true` if the text begins as a transcript of the question and the bit.
 fn is_transcript_of(alloc: Global, text: &[u8], question: u16, bit: u8) -> Result<bool, AllocError>
-    ensures { IfOk result (λ found. IsTrue found → IsTranscriptOf question bit text.now) }
+    ensures { IfOk result (λ found. IsTrue found ↔ IsTranscriptOf question bit text.now) }
 {
     let head = transcript_head(alloc, question, bit)?;
     Ok(begins(text, head.as_str()))
@@ -248,7 +251,10 @@ fn transcript_head(alloc: Global, question: u16, bit: u8) -> Result<String, Allo
 
 /// Returns `true` if the text begins with this one.
 fn begins(text: &[u8], head: &str) -> bool
-    ensures { IsTrue result → (rest : List ℕ) × (text.now ≡ head.now ++ rest) }
+    ensures { IsTrue result ↔ ((rest : List ℕ) × (text.now ≡ head.now ++ rest)) }
 {
-    behind(text, head).is_some()
+    match behind(text, head) {
+        Some(_rest) => true,
+        None => false,
+    }
 }
