@@ -1,8 +1,9 @@
 //! The steps of a question, one after the other.
 
-ghost use Rattle.std.specs.Prelude.{◌≡◌, ◌<◌, IfSome};
-ghost use Rattle.terms_prelude.specs.Terms.{new_place, new_statement};
+ghost use Rattle.std.specs.Prelude.{◌≡◌, ◌<◌, ◌↔◌, IfSome, IsSome};
+ghost use Rattle.terms_prelude.specs.Terms.{FitsStep, new_place, new_statement};
 ghost use Rattle.chances.specs.Steps.{round_of, step_of};
+ghost use Rattle.chances.specs.declared.steps.TheConstants.{STEPS};
 
 use terms::{Kind, Place, Statement, Value};
 
@@ -24,15 +25,18 @@ impl Step {
     /// Returns the statement of this kind and value on the broadcast of this origin in this step,
     /// or `None` if there is none: the step is behind the last, or the value isn't one of the step.
     pub fn statement(self, kind: Kind, origin: u8, value: Value) -> Option<Statement>
-        ensures { IfSome result
+        ensures some { IfSome result
             (λ s. s ≡ new_statement kind (new_place 0 origin (round_of self.0) (step_of self.0))
             value) }
+        ensures exact { IsSome result ↔ ((self.0 < STEPS) × FitsStep (step_of self.0) value) }
     {
         if self.0 >= STEPS {
             return None;
         }
         let round = (self.0 / 3) as u8 + 1;
-        let place = Place::new(0, origin, round, self.step())?;
-        Statement::new(kind, place, value)
+        match Place::new(0, origin, round, self.step()) {
+            Some(place) => Statement::new(kind, place, value),
+            None => None,
+        }
     }
 }
