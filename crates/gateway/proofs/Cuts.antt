@@ -1,7 +1,9 @@
 -- A text is cut at the first such byte in one way only.
-use Rattle.std.proofs.Common.{ℕ, suc, ◌≡◌, ◌+◌, ◌-◌, ◌==◌, Bool, true, false, cond, refl, sym, ap, subst, arith, Option, Some, None, List, [], ◌∷◌, ◌++◌, take, drop, length, take_all, length-drop, eqb-true, unwrap_or}
+use Rattle.std.proofs.Common.{ℕ, suc, ◌≡◌, ◌+◌, ◌-◌, ◌==◌, Bool, true, false, cond, refl, sym, ap, ◌∙◌, subst, arith, Option, Some, None, List, [], ◌∷◌, ◌++◌, take, drop, length, take_all, length-drop, eqb-true, unwrap_or}
 use Rattle.std.specs.List.{position_from}
-use Rattle.gateway.specs.Queries.{Lacks}
+use Rattle.gateway.specs.Queries.{IsAfter, IsAfterQuery, IsPosition, Lacks}
+use Rattle.gateway.specs.declared.queries.Position.{Position}
+use Rattle.std.proofs.lemmas.Bool.Decides.{nat_tests}
 
 abbrev is_mark : ℕ → ℕ → Bool
 is_mark mark byte = byte == mark
@@ -89,3 +91,15 @@ same_first a b c d e = ap (λ (o : Option (ℕ × ℕ)). (unwrap_or o (a, b)).0)
 
 pub same_second : (a b c d : ℕ) → ◌≡◌ {A = Option (ℕ × ℕ)} (Some (a, b)) (Some (c, d)) → b ≡ d
 same_second a b c d e = ap (λ (o : Option (ℕ × ℕ)). (unwrap_or o (a, b)).1) e
+
+-- the position of the last event that was seen, or else that of the query
+pub after_query : (query last : List ℕ) (at : Position) → true ≡ (length last == 0) → IsAfter query last at → IsAfterQuery query at
+after_query query [] at empty is = is
+after_query query (byte ∷ last) at empty is =
+    let some : (length (byte ∷ last) == 0) ≡ false = grind (arith, nat_tests) in
+    let no : true ≡ false = empty ∙ some in
+    absurd (cc)
+
+pub after_last : (query last : List ℕ) (at : Position) → false ≡ (length last == 0) → IsAfter query last at → IsPosition last at
+after_last query [] at some is = let no : false ≡ true = some in absurd (cc)
+after_last query (byte ∷ last) at some is = is

@@ -4,6 +4,7 @@ ghost use Rattle.std.specs.Prelude.{◌≡◌, ◌∷◌, ◌++◌, ◌==◌, �
 ghost use Rattle.std.specs.List.{position_from};
 ghost use Rattle.numerals.specs.Numbers.{IsBelow};
 ghost use Rattle.gateway.specs.Queries.{AreBounds, AreBoundsOf, IsAfter, IsAfterQuery, IsCut, IsNamed, IsPosition, IsRange, IsTimed, IsWait, Lacks};
+ghost use Rattle.gateway.specs.declared.queries.Position.{Position};
 
 use numerals::{behind, number, number16};
 
@@ -137,7 +138,8 @@ fn are_within(from: u64, to: u64, questions: u64) -> bool
 /// Returns the position from which a follower goes on: that of the last event that it saw, or else
 /// that of the query. `None` if they name none.
 pub(crate) fn after_of(query: &[u8], last: &[u8]) -> Option<Position>
-    ensures { IfSome result (IsAfter query.now last.now) }
+    ensures some { IfSome result (IsAfter query.now last.now) }
+    ensures none { IsNone result → (at : Position) → IsAfter query.now last.now at → ⊥ }
 {
     if last.is_empty() {
         return after_query(query);
@@ -147,7 +149,8 @@ pub(crate) fn after_of(query: &[u8], last: &[u8]) -> Option<Position>
 
 /// Returns the position that `after=` names.
 fn after_query(query: &[u8]) -> Option<Position>
-    ensures { IfSome result (IsAfterQuery query.now) }
+    ensures some { IfSome result (IsAfterQuery query.now) }
+    ensures none { IsNone result → (at : Position) → IsAfterQuery query.now at → ⊥ }
 {
     match behind(query, "after=") {
         Some(text) => position_of(text),
@@ -157,7 +160,8 @@ fn after_query(query: &[u8]) -> Option<Position>
 
 /// Returns the position that the text `LIFE.K` names.
 fn position_of(text: &[u8]) -> Option<Position>
-    ensures { IfSome result (IsPosition text.now) }
+    ensures some { IfSome result (IsPosition text.now) }
+    ensures none { IsNone result → (at : Position) → IsPosition text.now at → ⊥ }
 {
     match cut_at(text, b'.') {
         Some((life, place)) => position_at(life, place),
@@ -186,7 +190,10 @@ fn place_of(text: &[u8], mark: u8) -> Option<usize>
 
 /// Returns the two numbers that the words write.
 fn position_at(life: &[u8], place: &[u8]) -> Option<Position>
-    ensures { IfSome result (λ at. IsBelow 64 life.now at.life × IsBelow 64 place.now at.number) }
+    ensures some { IfSome result
+        (λ at. IsBelow 64 life.now at.life × IsBelow 64 place.now at.number) }
+    ensures none { IsNone result → (first second : ℕ) → IsBelow 64 life.now first →
+        IsBelow 64 place.now second → ⊥ }
 {
     match number(life) {
         Some(life) => match number(place) {
