@@ -7,4 +7,5 @@ pub mod Reporting
 pub mod Without
 pub mod Made
 pub mod Ordering
+pub mod Saying
 pub mod WaitingOn

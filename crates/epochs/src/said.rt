@@ -1,6 +1,6 @@
 //! Bytes that were read of a connection before it came to its epoch.
 
-ghost use Rattle.std.specs.Prelude.{◌≡◌, ◌≤◌, take};
+ghost use Rattle.std.specs.Prelude.{◌≤◌};
 ghost use Rattle.epochs.specs.declared.said.TheConstants.{MOST};
 
 /// The most bytes that are kept: more than the longest line that names a slot.
@@ -15,8 +15,14 @@ pub struct Said {
 }
 
 impl Said {
+    ghost use Rattle.std.specs.Prelude.{◌≡◌, ◌+◌, ◌==◌, [], ◌∷◌, ◌++◌, drop, length, position, take};
+    ghost use Rattle.epochs.specs.Lines.{said_bytes};
+    ghost use Rattle.epochs.specs.declared.said.TheConstants.{MOST};
+
     /// Nothing was read.
-    pub fn nothing() -> Said {
+    pub fn nothing() -> Said
+        ensures { said_bytes result ≡ [] }
+    {
         Said {
             bytes: [0; MOST],
             length: 0,
@@ -31,19 +37,25 @@ impl Said {
     }
 
     /// Returns how many more there is room for.
-    pub fn room(&self) -> usize {
+    pub fn room(&self) -> usize
+        ensures { result + length (said_bytes self.now) ≡ MOST }
+    {
         MOST - self.length
     }
 
     /// These were read too. Those for which there is no room are dropped.
-    pub fn extend(&mut self, bytes: &[u8]) {
+    pub fn extend(&mut self, bytes: &[u8])
+        ensures { said_bytes self.new ≡ take MOST (said_bytes self.old ++ bytes.now) }
+    {
         for byte in bytes {
             self.push(*byte);
         }
     }
 
     /// This byte was read too. It is dropped if there is no room.
-    fn push(&mut self, byte: u8) {
+    fn push(&mut self, byte: u8)
+        ensures { said_bytes self.new ≡ take MOST (said_bytes self.old ++ byte ∷ []) }
+    {
         if self.length < MOST {
             self.bytes[self.length] = byte;
             self.length += 1;
@@ -51,14 +63,18 @@ impl Said {
     }
 
     /// The first so many bytes are answered: they aren't kept any more.
-    pub fn drop_front(&mut self, count: usize) {
+    pub fn drop_front(&mut self, count: usize)
+        ensures { said_bytes self.new ≡ drop count (said_bytes self.old) }
+    {
         let mut rest = Said::nothing();
         rest.extend(&self.bytes()[count.min(self.length)..]);
         *self = rest;
     }
 
     /// Returns where the first line ends, by the byte 10 behind it. `None` if none ends.
-    pub fn line_end(&self) -> Option<usize> {
+    pub fn line_end(&self) -> Option<usize>
+        ensures { result ≡ position (λ byte. byte == 10) (said_bytes self.now) }
+    {
         self.bytes().iter().position(|byte| *byte == b'\n')
     }
 }
