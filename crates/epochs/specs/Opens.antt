@@ -76,6 +76,14 @@ is_busy newest one = nat_lt one.epoch newest && takes_room one
 abbrev pub has_room : State → Bool
 has_room state = nat_lt (length (filter (is_busy state.newest) state.running.items)) BEHIND && nat_lt (length state.running.items) MOST
 
+-- an epoch that runs isn't done here, is behind the newest, and takes the room of another
+abbrev pub is_made_up_for : State → Running → Bool
+is_made_up_for state one = is_busy state.newest one && list_any (λ epoch. epoch == one.epoch) state.undone.items
+
+-- how many of these run
+abbrev pub made_up_for : State → ℕ
+made_up_for state = length (filter (is_made_up_for state) state.running.items)
+
 -- the epoch isn't done, and nothing of it is known
 pub record IsToMakeUp (state : State) (epoch : ℕ) : Type 0 where
   pub undone : Contains state.undone.items epoch

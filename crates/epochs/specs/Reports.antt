@@ -1,9 +1,17 @@
 -- What a report says of an epoch that runs.
-use Rattle.std.specs.Prelude.{ℕ, ◌==◌, ◌&&◌, ◌||◌, Bool, true, not, if◌then◌else◌, List, Option, filter, find, position, nat_le}
+use Rattle.std.specs.Prelude.{ℕ, ◌≡◌, ◌==◌, ◌&&◌, ◌||◌, Bool, true, false, not, if◌then◌else◌, List, Option, filter, find, position, nat_le}
 use Rattle.epochs.specs.declared.board.Report.{Report}
 use Rattle.epochs.specs.declared.running.Running.{Running}
 use Rattle.epochs.specs.declared.running.TheConstants.{QUIET, COMPLETE, RESTING}
 use Rattle.epochs.specs.Asking.{tells_next}
+
+-- the epoch has just begun to run: its member doesn't listen yet, and it doesn't rest
+pub record IsBeginning (epoch : ℕ) (one : Running) : Type 0 where
+  pub epoch_is : one.epoch ≡ epoch
+  pub silent : one.is_ready ≡ false
+  pub progress : one.progress ≡ 0
+  pub quiet : one.quiet ≡ 0
+  pub awake : one.rests ≡ false
 
 -- for how many seconds the progress is that of the report
 abbrev pub quiet_after : Report → ℕ → ℕ → ℕ

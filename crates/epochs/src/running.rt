@@ -3,7 +3,7 @@
 ghost use Rattle.std.specs.Prelude.{◌≡◌, ◌≢◌, ℕ, ◌==◌, position, Option};
 ghost use Rattle.std.specs.Option.{option_map};
 ghost use Rattle.epochs.specs.Opens.{is_busy, takes_room};
-ghost use Rattle.epochs.specs.Reports.{is_quiet, is_resting, noted, place_in, quiet_after, readied, running_in};
+ghost use Rattle.epochs.specs.Reports.{IsBeginning, is_quiet, is_resting, noted, place_in, quiet_after, readied, running_in};
 
 use crate::board::{Doors, Report};
 
@@ -31,7 +31,10 @@ pub(crate) struct Running {
 
 impl Running {
     /// An epoch with these doors, which begins to run.
-    pub(crate) fn new(epoch: u64, doors: Doors) -> Running {
+    pub(crate) fn new(epoch: u64, doors: Doors) -> Running
+        ensures begins { IsBeginning epoch result }
+        ensures doors { result.doors ≡ doors }
+    {
         Running {
             epoch,
             doors,

@@ -2,13 +2,15 @@
 
 ghost use Rattle.std.specs.Prelude.{ℕ, ◌≡◌, ◌≢◌, ◌↔◌, ◌^◌, ◌⊎◌, ◌<◌, ◌≤◌, ◌==◌, ◌&&◌, ◌+◌, Bool, true, false, not, max, None, Some, [], ◌∷◌, ◌++◌, All, Contains, IfOk, IfSome, IsTrue, OnErr, OnOk, filter, drop, if◌then◌else◌, length, map, nat_le, nat_lt, slice_get, take};
 ghost use Rattle.std.specs.Borrow.{Bor};
+ghost use Rattle.std.specs.List.{list_any};
 ghost use Rattle.std.specs.Option.{option_map, option_map_or};
 ghost use Rattle.chain.specs.Opening.{IsOpenEpoch};
 ghost use Rattle.chain.specs.Slots.{chain_size};
+ghost use Rattle.chain.specs.declared.opening.Ask.{Ask};
 ghost use Rattle.chain.specs.declared.opening.Known.{Known};
 ghost use Rattle.epochs.specs.Asking.{HasFewAsks, asks_by, tells_next};
 ghost use Rattle.epochs.specs.Asks.{heard_since, not_asked, not_for, standing};
-ghost use Rattle.epochs.specs.Opens.{IsAwaited, IsDue, IsKept, IsKnown, IsMadeFor, IsMissed, IsToMakeUp, MayRun, WasLeftOut, first_open, has_gone_quiet, has_room, is_busy, least, next_change, runs, ticked};
+ghost use Rattle.epochs.specs.Opens.{IsAwaited, IsDue, IsKept, IsKnown, IsMadeFor, IsMissed, IsToMakeUp, MayRun, WasLeftOut, first_open, has_gone_quiet, has_room, is_busy, is_made_up_for, least, made_up_for, next_change, runs, ticked};
 ghost use Rattle.epochs.specs.Parking.{WaitOn, is_patient, place_of, waiting_elsewhere};
 ghost use Rattle.epochs.specs.Reports.{noted, readied, running_elsewhere, running_in};
 ghost use Rattle.epochs.specs.Verdicts.{IsUntouched, has_begun, has_open, verdict_at};
@@ -19,7 +21,7 @@ ghost use Rattle.epochs.specs.declared.board.Onward.TheVariants.{Await, Move, Pa
 ghost use Rattle.epochs.specs.declared.board.Stored.TheVariants.{Ahead, Decided, Far, Gone, Open};
 ghost use Rattle.epochs.specs.declared.state.Place.TheVariants as place;
 ghost use Rattle.epochs.specs.declared.state.Parked.{Parked};
-ghost use Rattle.epochs.specs.declared.state.TheConstants.{AHEAD, MOST, PARKED};
+ghost use Rattle.epochs.specs.declared.state.TheConstants.{AHEAD, MOST, OWN, PARKED};
 ghost use Rattle.epochs.specs.declared.running.TheConstants.{QUIET};
 
 use crate::asks::Asks;
@@ -82,7 +84,14 @@ pub(crate) struct State {
 
 impl State {
     /// No epoch is known.
-    pub(crate) fn new(alloc: Global) -> State {
+    pub(crate) fn new(alloc: Global) -> State
+        ensures newest { result.newest ≡ 0 }
+        ensures made { length result.verdicts.items ≡ 0 }
+        ensures running { result.running.items ≡ [] }
+        ensures undone { result.undone.items ≡ [] }
+        ensures parked { result.parked.items ≡ [] }
+        ensures asks { standing result.asks ≡ [] }
+    {
         State {
             newest: 0,
             changes: 0,
@@ -180,6 +189,7 @@ impl State {
         ensures due { result ≡ place.IsDue → IsDue chain.now self.now epoch }
         ensures nowhere { result ≡ place.Nowhere →
             running_in self.now.running.items epoch ≡ None }
+        ensures turned_away { result ≡ place.Nowhere → IsDue chain.now self.now epoch → ⊥ }
     {
         if let Some(running) = self.running_at(epoch) {
             return Place::Runs(&running.doors);
@@ -199,6 +209,12 @@ impl State {
         ensures awaited { length self.now.running.items < MOST → (one : Parked) →
             Contains self.now.parked.items one → IsAwaited chain.now self.now one →
             result ≢ None }
+        ensures made_up { made_up_for self.now < OWN → has_room self.now ≡ true → (epoch : ℕ) →
+            Contains self.now.undone.items epoch → IsDue chain.now self.now epoch →
+            result ≢ None }
+        ensures asked { has_room self.now ≡ true → (ask : Ask) →
+            Contains self.now.asks.list.items ask → IsDue chain.now self.now ask.epoch →
+            result ≢ None }
     {
         let front = self.newest.saturating_add(1);
         if self.is_due(chain, self.newest) {
@@ -213,6 +229,16 @@ impl State {
         if let Some(epoch) = self.due_to_make_up(chain) {
             return Some(epoch);
         }
+        self.due_for_peers(chain)
+    }
+
+    /// Returns an epoch for which a peer asks and that is to run, if there is room for one.
+    fn due_for_peers(&self, chain: &Chain) -> Option<u64>
+        ensures due { IfSome result (IsDue chain.now self.now) }
+        ensures asked { has_room self.now ≡ true → (ask : Ask) →
+            Contains self.now.asks.list.items ask → IsDue chain.now self.now ask.epoch →
+            result ≢ None }
+    {
         match self
             .asks
             .list()
@@ -249,7 +275,10 @@ impl State {
 
     /// Returns an epoch that isn't done here and that is to run for that, if there is room for one.
     fn due_to_make_up(&self, chain: &Chain) -> Option<u64>
-        ensures { IfSome result (IsDue chain.now self.now) }
+        ensures due { IfSome result (IsDue chain.now self.now) }
+        ensures made_up { made_up_for self.now < OWN → has_room self.now ≡ true → (epoch : ℕ) →
+            Contains self.now.undone.items epoch → IsDue chain.now self.now epoch →
+            result ≢ None }
     {
         if self.made_up_for() >= OWN {
             return None;
@@ -261,13 +290,20 @@ impl State {
     }
 
     /// Returns how many of these aren't done here.
-    fn made_up_for(&self) -> usize {
-        let newest = self.newest;
+    fn made_up_for(&self) -> usize
+        ensures { result ≡ made_up_for self.now }
+    {
         self.running
             .iter()
-            .filter(|one| one.is_busy(newest))
-            .filter(|one| self.undone.iter().any(|epoch| *epoch == one.epoch))
+            .filter(|one| self.is_made_up_for(one))
             .count()
+    }
+
+    /// Returns `true` if this epoch, which runs, isn't done here, and takes the room of another.
+    fn is_made_up_for(&self, one: &Running) -> bool
+        ensures { result ≡ is_made_up_for self.now one.now }
+    {
+        one.is_busy(self.newest) && is_among(self.undone.as_slice(), one.epoch)
     }
 
     /// Returns `true` if this epoch is to run, doesn't, and has room beside those that do.
@@ -1024,6 +1060,10 @@ impl State {
         ensures gone { result ≡ Some Gone → IsKept self.now epoch → ⊥ }
         ensures ahead { result ≡ Some Ahead → self.now.newest + 1 < epoch }
         ensures far { result ≡ Some Far → self.now.newest + AHEAD < epoch }
+        ensures lost { (IsKept self.now epoch → ⊥) → result ≢ None → result ≡ Some Gone }
+        ensures near { result ≡ Some Open → slice_get self.now.verdicts.items epoch ≡ None →
+            epoch ≤ self.now.newest + 1 }
+        ensures within { result ≡ Some Ahead → epoch ≤ self.now.newest + AHEAD }
     {
         if self.running_at(epoch).is_some() {
             return None;
@@ -1088,6 +1128,13 @@ fn place_of(parked: &[Parked], epoch: u64) -> Option<usize>
     ensures { result ≡ place_of parked.now epoch }
 {
     parked.iter().position(|one| one.epoch == epoch)
+}
+
+/// Returns `true` if the epoch is one of these.
+fn is_among(epochs: &[u64], epoch: u64) -> bool
+    ensures { result ≡ list_any (λ one. one == epoch) epochs.now }
+{
+    epochs.iter().any(|one| *one == epoch)
 }
 
 /// Returns the least of this number and of the epochs that run.

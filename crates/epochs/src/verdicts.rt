@@ -22,7 +22,10 @@ pub struct Verdicts {
 
 impl Verdicts {
     /// Those of an epoch whose journal was put away.
-    pub fn gone(alloc: Global) -> Verdicts {
+    pub fn gone(alloc: Global) -> Verdicts
+        ensures cells { length result.cells.items ≡ 0 }
+        ensures order { result.order.items ≡ [] }
+    {
         Verdicts {
             cells: Vec::new(alloc),
             order: Vec::new(alloc),
