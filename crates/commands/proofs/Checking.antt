@@ -6,6 +6,7 @@ use Rattle.numerals.specs.Sentences.{sentence}
 use Rattle.numerals.specs.Lines.{line}
 use Rattle.commands.specs.Dumps.{header_line}
 use Rattle.settings.specs.Texts.{address_text}
+use Rattle.commands.specs.Quoting.{visible_text}
 use Rattle.commands.specs.Checks.{peer_line, options_lines, settings_text}
 
 -- a line, before what follows it
@@ -15,8 +16,8 @@ in_line word value rest = simp append_assoc
 -- what the settings say, from the pieces that were written
 pub settings_pieces : (s : Settings) (header peers desk options : List ℕ) → header ≡ header_line s.header → peers ≡ flat_map peer_line s.peers.items
     → desk ≡ address_text s.desk → options ≡ options_lines s
-    → header ++ (codes "journal " ++ (string_bytes s.journal ++ (codes "\n" ++ (peers ++ (codes "desk " ++ (desk ++ (codes "\n" ++ options))))))) ≡ settings_text s
+    → header ++ (codes "journal " ++ (visible_text (string_bytes s.journal) ++ (codes "\n" ++ (peers ++ (codes "desk " ++ (desk ++ (codes "\n" ++ options))))))) ≡ settings_text s
 settings_pieces s header peers desk options a b c o =
-    ap (λ (r : List ℕ). header ++ r) (in_line (codes "journal") (string_bytes s.journal) _ ∙ ap (λ (r : List ℕ). line (sentence (codes "journal" ∷ string_bytes s.journal ∷ [])) ++ (peers ++ r)) (in_line (codes "desk") desk options))
-    ∙ (ap₂ (λ (h r : List ℕ). h ++ (line (sentence (codes "journal" ∷ string_bytes s.journal ∷ [])) ++ (peers ++ (line (sentence (codes "desk" ∷ desk ∷ [])) ++ r)))) a o
-    ∙ ap₂ (λ (p d : List ℕ). header_line s.header ++ (line (sentence (codes "journal" ∷ string_bytes s.journal ∷ [])) ++ (p ++ (line (sentence (codes "desk" ∷ d ∷ [])) ++ options_lines s)))) b c)
+    ap (λ (r : List ℕ). header ++ r) (in_line (codes "journal") (visible_text (string_bytes s.journal)) _ ∙ ap (λ (r : List ℕ). line (sentence (codes "journal" ∷ visible_text (string_bytes s.journal) ∷ [])) ++ (peers ++ r)) (in_line (codes "desk") desk options))
+    ∙ (ap₂ (λ (h r : List ℕ). h ++ (line (sentence (codes "journal" ∷ visible_text (string_bytes s.journal) ∷ [])) ++ (peers ++ (line (sentence (codes "desk" ∷ desk ∷ [])) ++ r)))) a o
+    ∙ ap₂ (λ (p d : List ℕ). header_line s.header ++ (line (sentence (codes "journal" ∷ visible_text (string_bytes s.journal) ∷ [])) ++ (p ++ (line (sentence (codes "desk" ∷ d ∷ [])) ++ options_lines s)))) b c)

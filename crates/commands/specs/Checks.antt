@@ -8,6 +8,7 @@ use Rattle.settings.specs.Texts.{address_text}
 use Rattle.numerals.specs.Sentences.{sentence}
 use Rattle.numerals.specs.Lines.{line}
 use Rattle.commands.specs.Dumps.{header_line}
+use Rattle.commands.specs.Quoting.{visible_text}
 
 -- the line of a peer
 abbrev pub peer_line : Address → List ℕ
@@ -22,13 +23,13 @@ option_line name (Some value) = line (sentence (name ∷ value ∷ []))
 abbrev pub options_lines : Settings → List ℕ
 options_lines settings =
     option_line (codes "listen") (option_map address_text settings.listen)
-    ++ (option_line (codes "desk-socket") (option_map string_bytes settings.desk_socket)
-    ++ option_line (codes "epochs") (option_map string_bytes settings.epochs))
+    ++ (option_line (codes "desk-socket") (option_map (λ path. visible_text (string_bytes path)) settings.desk_socket)
+    ++ option_line (codes "epochs") (option_map (λ path. visible_text (string_bytes path)) settings.epochs))
 
 -- the line of the header, and those of the journal's path, of the peers, in order, of the desk, and of what may be left out
 abbrev pub settings_text : Settings → List ℕ
 settings_text settings =
-    header_line settings.header ++ (line (sentence (codes "journal" ∷ string_bytes settings.journal ∷ []))
+    header_line settings.header ++ (line (sentence (codes "journal" ∷ visible_text (string_bytes settings.journal) ∷ []))
     ++ (flat_map peer_line settings.peers.items ++ (line (sentence (codes "desk" ∷ address_text settings.desk ∷ [])) ++ options_lines settings)))
 
 -- the line of so many records

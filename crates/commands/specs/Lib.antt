@@ -8,6 +8,7 @@ pub mod Surveys
 pub mod Transcripts
 pub mod Checks
 pub mod TextLines
+pub mod Quoting
 pub mod Damage
 pub mod OldDamage
 pub mod Shows

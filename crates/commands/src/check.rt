@@ -11,11 +11,13 @@ ghost use Rattle.terms_prelude.specs.Terms.{Record};
 ghost use Rattle.commands.specs.Checks.{option_line, options_lines, peer_line, records_line, settings_text};
 ghost use Rattle.settings.specs.Texts.{address_text};
 ghost use Rattle.commands.specs.Objects.{check_object};
+ghost use Rattle.commands.specs.Quoting.{visible_text};
 ghost use Rattle.commands.specs.Faults.{IsOfDump, IsOfPrint};
 
 use crate::dump::{header_line, read_records};
 use crate::fault::DumpFault;
 use crate::objects::check_object;
+use crate::quoting::Visible;
 use disk::Disk;
 use settings::{Address, Settings, address_text};
 use std::alloc::{AllocError, Global};
@@ -23,8 +25,9 @@ use std::io::Write;
 use terms::Header;
 
 /// Writes what the settings say: the line of `dump` for whose journal it is, the journal's path,
-/// the address of each member, in order, that of the desk, and `listen` and `desk-socket` if they
-/// are given. The seed is secret and not written.
+/// the address of each member, in order, that of the desk, and `listen`, `desk-socket` and `epochs`
+/// if they are given. A path is written as [`Visible`] shows it. The seed is secret, and isn't
+/// written.
 ///
 /// [`DumpFault::Stream`] and [`DumpFault::Memory`]: the write or a growth failed.
 pub fn print_settings<W: Write>(
@@ -49,7 +52,7 @@ fn settings_text(alloc: Global, settings: &Settings) -> Result<String, AllocErro
     format!(in alloc;
         "{}journal {}\n{}desk {}\n{}",
         header_line(alloc, &settings.header)?,
-        settings.journal,
+        Visible::of(settings.journal.as_str()),
         peer_lines(alloc, &settings.peers)?,
         address_text(alloc, &settings.desk)?,
         options_lines(alloc, settings)?
@@ -100,10 +103,10 @@ fn listen_line(alloc: Global, listen: &Option<Address>) -> Result<String, AllocE
 fn socket_line(alloc: Global, socket: &Option<String>) -> Result<String, AllocError>
     ensures { IfOk result
         (λ text. string_bytes text ≡ option_line (codes "desk-socket")
-        (option_map string_bytes socket.now)) }
+        (option_map (λ path. visible_text (string_bytes path)) socket.now)) }
 {
     match socket {
-        Some(path) => format!(in alloc; "desk-socket {path}\n"),
+        Some(path) => format!(in alloc; "desk-socket {}\n", Visible::of(path.as_str())),
         None => Ok(String::new(alloc)),
     }
 }
@@ -112,10 +115,10 @@ fn socket_line(alloc: Global, socket: &Option<String>) -> Result<String, AllocEr
 fn epochs_line(alloc: Global, epochs: &Option<String>) -> Result<String, AllocError>
     ensures { IfOk result
         (λ text. string_bytes text ≡ option_line (codes "epochs")
-        (option_map string_bytes epochs.now)) }
+        (option_map (λ path. visible_text (string_bytes path)) epochs.now)) }
 {
     match epochs {
-        Some(folder) => format!(in alloc; "epochs {folder}\n"),
+        Some(folder) => format!(in alloc; "epochs {}\n", Visible::of(folder.as_str())),
         None => Ok(String::new(alloc)),
     }
 }
