@@ -261,6 +261,18 @@ def an_argument_comes_whole(folder, _):
 
 
 @check
+def a_second_line_is_short(folder, _):
+    """Of a long line the first 200 characters are shown, cut between two of them, and what takes many bytes as an escape too."""
+    form = "word 2 must be a number from 0 to 65535: the first line is `n N`: N members, 1 to 64"
+    for line, shown in (("n " + "x" * 198, "n " + "x" * 198), ("n " + "x" * 199, "n " + "x" * 198 + " .."),
+                        ("n " + "ü" * (1 << 20), "n " + "ü" * 198 + " .."),
+                        ("n " + "\x9b" * (1 << 20), '"n ' + "\\u{9b}" * 198 + '" ..')):
+        write(folder, "long.script", line.encode() + b"\n")
+        expect(f"{len(line)} characters", say(folder, "simulate", "long.script"),
+               ("", f"bracha: line 1\nlong.script:1: {shown}: {form}\n", 1))
+
+
+@check
 def closed_streams_leave_files_alone(folder, port):
     """What can't be printed or said anywhere isn't written into a file that was opened, and doesn't begin a member."""
     journal = b"BRACHAJ2" + struct.pack(">QBBHB3xx", 7, 4, 1, 1, 1)

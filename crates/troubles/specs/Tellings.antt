@@ -1,8 +1,11 @@
 -- What is told of faults in texts and journals.
-use Rattle.std.specs.Prelude.{ℕ, ◌≡◌, ◌-◌, ◌==◌, ◌⊎◌, ◌||◌, nat_lt, Bool, false, true, List, [], ◌∷◌, ◌++◌, codes, length, Option, Some, None, Result, Ok, Err, slice_get, ⊤}
+use Rattle.std.specs.Prelude.{ℕ, ◌≡◌, ◌-◌, ◌==◌, ◌⊎◌, ◌||◌, ◌&&◌, not, if◌then◌else◌, nat_lt, Bool, false, true, List, [], ◌∷◌, ◌++◌, codes, length, take, Option, Some, None, Result, Ok, Err, slice_get, ⊤}
+use Rattle.std.specs.Char.{is_ascii_alphanumeric}
 use Rattle.std.specs.declared.alloc.AllocError.{AllocError}
 use Rattle.std.specs.List.{list_any}
-use Rattle.std.specs.Str.{IsUtf8}
+use Rattle.std.specs.Str.{IsUtf8, chars, encode_utf8_all}
+use Rattle.std.specs.Fmt.{decimal}
+use Rattle.commands.specs.Quoting.{has_hidden, quoted_text}
 use Rattle.terms_prelude.specs.Terms.{Header, SizeFault}
 use Rattle.terms.specs.declared.SizeFault.TheVariants.{NoMembers, TooManyMembers, TooManyLiars, NoQuestions, TooManyQuestions}
 use Rattle.settings.specs.Keys.{key_text}
@@ -86,6 +89,30 @@ IsStrayPlace name false text (place.Line number) = IsFirstLine (SaysKey name) (l
 IsStrayPlace name in_table text place.Whole = ⊤
 IsStrayPlace name in_table text other = ⊥
 
+-- the first 200 characters
+abbrev pub front_of : List ℕ → List ℕ
+front_of text = encode_utf8_all (take 200 (chars text))
+
+-- two dots behind so many bytes of a text of that length, if there are more
+abbrev pub more_text : ℕ → ℕ → List ℕ
+more_text shown length = if nat_lt shown length then codes " .." else []
+
+-- the first 200 characters, in quotes or not, and two dots if there are more
+abbrev pub cut_text : Bool → List ℕ → List ℕ
+cut_text quoted text = (if quoted then quoted_text (front_of text) else front_of text) ++ more_text (length (front_of text)) (length text)
+
+-- a byte that can't stand in a key without quotes
+abbrev pub is_unbare : ℕ → Bool
+is_unbare byte = not (is_ascii_alphanumeric byte || (byte == 95) || (byte == 45))
+
+-- TOML takes the name of the key without quotes
+abbrev pub is_bare : List ℕ → Bool
+is_bare name = nat_lt 0 (length name) && not (list_any is_unbare name)
+
+-- how the name of a key is told
+abbrev pub key_name : List ℕ → List ℕ
+key_name name = cut_text (not (is_bare name)) name
+
 -- what is told of it
 abbrev pub stray_words : List ℕ → Bool → List ℕ
 stray_words name true = name ++ codes ": stands in a table, ignored"
@@ -138,10 +165,6 @@ abbrev pub IsScriptPlace : SimulateFault → Whereabouts → Type 0
 IsScriptPlace (unplayed.Line number) at = at ≡ place.Line number
 IsScriptPlace other at = at ≡ place.Whole
 
--- a control character
-abbrev pub is_control : ℕ → Bool
-is_control byte = nat_lt byte 32 || (byte == 127)
-
 -- a blank
 abbrev pub is_blank : Option ℕ → Bool
 is_blank (Some byte) = byte == 32
@@ -153,11 +176,11 @@ ends_blank bytes = is_blank (slice_get bytes (length bytes - 1))
 
 -- the line is shown in quotes
 abbrev pub is_quoted : List ℕ → Bool
-is_quoted line = list_any is_control line || ends_blank line
+is_quoted line = has_hidden line || ends_blank line
 
--- what is said of a line: the line itself where that is plain text, and why it isn't where that is so
+-- what is said of a line: its front, or that it is no text
 pub record IsLineWords (line text : List ℕ) : Type 0 where
-  pub plain : IsUtf8 line → is_quoted line ≡ false → text ≡ line
+  pub front : IsUtf8 line → text ≡ cut_text (is_quoted line) line
   pub other : (IsUtf8 line → ⊥) → text ≡ codes "not UTF-8"
 
 -- the same of a line that may be missing, or empty, and that others may follow

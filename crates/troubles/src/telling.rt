@@ -1,6 +1,6 @@
 //! The words on faults in texts and journals.
 
-ghost use Rattle.troubles.specs.Tellings.{IsJournalPlace, IsJournalWords, IsLineOf, IsLongWords, IsOldPlace, IsOwnerWords, IsNotOldWords, IsPlaceOfKey, AreLineWords, IsLineWords, ends_blank, headless_words, is_quoted, AreScriptWords, IsScriptPlace, IsScriptWords, IsOrderOf, IsWhyAt, IsSettingsPlace, IsSettingsWords, IsStrayPlace, IsTranscriptPlace, IsTranscriptWords, is_control, of_settings, place_at, size_key, stray_words};
+ghost use Rattle.troubles.specs.Tellings.{IsJournalPlace, IsJournalWords, IsLineOf, IsLongWords, IsOldPlace, IsOwnerWords, IsNotOldWords, IsPlaceOfKey, AreLineWords, IsLineWords, cut_text, ends_blank, front_of, headless_words, is_bare, is_quoted, is_unbare, key_name, more_text, AreScriptWords, IsScriptPlace, IsScriptWords, IsOrderOf, IsWhyAt, IsSettingsPlace, IsSettingsWords, IsStrayPlace, IsTranscriptPlace, IsTranscriptWords, of_settings, place_at, size_key, stray_words};
 ghost use Rattle.troubles.specs.Troubles.{IsTold};
 ghost use Rattle.commands.specs.declared.fault.SimulateFault.TheVariants as unplayed;
 ghost use Rattle.troubles.specs.declared.fault.Fault.TheVariants as ends;
@@ -12,17 +12,18 @@ ghost use Rattle.commands.specs.Owners.{IsHeadless, IsLongOwner, IsNoJournal, Is
 ghost use Rattle.journal.specs.declared.fault.JournalFault.TheVariants.{NotEmpty, OtherHeader};
 ghost use Rattle.settings.specs.declared.fault.SettingsFault.TheVariants as unset;
 ghost use Rattle.commands.specs.TextLines.{lines_in};
+ghost use Rattle.commands.specs.Quoting.{quoted_text};
 ghost use Rattle.std.specs.List.{list_any};
-ghost use Rattle.std.specs.Prelude.{◌≡◌, ◌↔◌, ◌-◌, ◌⊎◌, IfOk, IfSome, IsTrue, Some, codes, length, nat_lt, option_map, slice_get, string_bytes, ⊤};
+ghost use Rattle.std.specs.Prelude.{◌≡◌, ◌↔◌, ◌-◌, ◌++◌, ◌⊎◌, IfOk, IfSome, IsTrue, Some, codes, length, nat_lt, option_map, slice_get, string_bytes, ⊤};
 
 use crate::fault::Fault;
 use crate::forms::{Order, form_of, head_order, order_of};
 use crate::misfits::why_words;
 use crate::trouble::{Failure, Trouble, Whereabouts, trouble_of};
 use commands::{
-    SimulateFault, asked_words, bytes_at, fault_place, key_words, line_at, line_in_table,
-    line_of_key, line_of_name, lines_in, long_owner, old_fault_place, other_owner, owner,
-    text_fault,
+    Quoted, SimulateFault, asked_words, bytes_at, fault_place, has_hidden, key_words, line_at,
+    line_in_table, line_of_key, line_of_name, lines_in, long_owner, old_fault_place, other_owner,
+    owner, text_fault,
 };
 use journal::JournalFault;
 use migration::MigrateFault;
@@ -553,31 +554,23 @@ fn words_by(alloc: Global, line: Option<&[u8]>, followed: bool) -> Result<String
     String::from_str(alloc, ENDS)
 }
 
-/// The words for a line of a script or a transcript that isn't empty: the line, in quotes and with
-/// escapes where that shows more.
+/// Returns the words for a line of a script or a transcript that isn't empty: the first 200
+/// characters of the line, in quotes and with escapes if that shows more.
 fn words_of(alloc: Global, line: &[u8]) -> Result<String, AllocError>
     ensures { IfOk result (λ text. IsLineWords line.now (string_bytes text)) }
 {
     match str::from_utf8(line) {
-        Ok(text) if is_quoted(line) => format!(in alloc; "{text:?}"),
-        Ok(text) => String::from_str(alloc, text),
+        Ok(text) => cut_words(alloc, text, is_quoted(text)),
         Err(_) => String::from_str(alloc, "not UTF-8"),
     }
 }
 
-/// Returns `true` if the line is shown in quotes: it has a control byte, such as the 0D of another
-/// system's line end, or a blank at its end, which nobody would see.
-fn is_quoted(line: &[u8]) -> bool
+/// Returns `true` if the line is shown in quotes: it has a character that no reader sees, such as
+/// the 0D of another system's line end, or a blank at its end.
+fn is_quoted(line: &str) -> bool
     ensures { result ≡ is_quoted line.now }
 {
-    has_control(line) || ends_blank(line)
-}
-
-/// Returns `true` if one of the bytes is a control character.
-fn has_control(bytes: &[u8]) -> bool
-    ensures { result ≡ list_any is_control bytes.now }
-{
-    bytes.iter().any(|byte| byte.is_ascii_control())
+    has_hidden(line) || ends_blank(line.as_bytes())
 }
 
 /// Returns `true` if the last byte is a blank.
@@ -588,4 +581,39 @@ fn ends_blank(bytes: &[u8]) -> bool
         Some(byte) => *byte == b' ',
         None => false,
     }
+}
+
+/// Returns the first 200 characters of a text, in quotes if that is wanted, and ` ..` if there are
+/// more.
+fn cut_words(alloc: Global, text: &str, quoted: bool) -> Result<String, AllocError>
+    ensures { IfOk result (λ shown. string_bytes shown ≡ cut_text quoted text.now) }
+{
+    let front = front_of(alloc, text)?;
+    let more = more_words(front.len(), text.len());
+    if quoted {
+        return quoted_words(alloc, front.as_str(), more);
+    }
+    format!(in alloc; "{front}{more}")
+}
+
+/// Returns the text in quotes, and what follows them.
+fn quoted_words(alloc: Global, text: &str, more: &str) -> Result<String, AllocError>
+    ensures { IfOk result (λ shown. string_bytes shown ≡ quoted_text text.now ++ more.now) }
+{
+    let quoted = Quoted { text };
+    format!(in alloc; "{quoted}{more}")
+}
+
+/// Returns the first 200 characters of a text.
+fn front_of(alloc: Global, text: &str) -> Result<String, AllocError>
+    ensures { IfOk result (λ front. string_bytes front ≡ front_of text.now) }
+{
+    text.chars().take(200).collect(alloc)
+}
+
+/// Returns what is shown behind so many bytes of a text of that length: ` ..` if there are more.
+fn more_words(shown: usize, length: usize) -> &'static str
+    ensures { result.now ≡ more_text shown length }
+{
+    if shown < length { " .." } else { "" }
 }
