@@ -273,6 +273,24 @@ def a_second_line_is_short(folder, _):
 
 
 @check
+def the_first_ignored_keys_are_named(folder, port):
+    """Of the keys that are ignored 20 are named, in quotes unless TOML takes them without, and the others are counted."""
+    text = settings(1, [f"127.0.0.1:{port + it}" for it in range(4)], f"127.0.0.1:{port + 4}", t=1)
+    write(folder, "member.journal", b"BRACHAJ2" + struct.pack(">QBBHB3xx", 7, 4, 1, 1, 1))
+    named = lambda name, line: f"member.toml{line}: {name}: no key of the settings, ignored\n"
+    odd = r'"\u001b]0;x\u0007\nbracha: all fine\n"', r'"\u{1b}]0;x\u{7}\nbracha: all fine\n"'
+    for given, said in (('a-B_9 = 1\n"b c" = 2\n"ü" = 3\n"" = 4\n', named('""', "") + named("a-B_9", ":1") + named('"b c"', "") + named('"ü"', "")),
+                        (f"{odd[0]} = 1\n", named(odd[1], "")),
+                        (f"{'k' * 300} = 1\n", named("k" * 200 + " ..", ":1")),
+                        ("".join(f"k{it} = 1\n" for it in range(10, 30)), "".join(named(f"k{it}", f":{it - 9}") for it in range(10, 30))),
+                        ("".join(f"k{it} = 1\n" for it in range(10000, 30000)),
+                         "".join(named(f"k{it}", f":{it - 9999}") for it in range(10000, 10020)) + "member.toml: more keys, ignored: 19980\n")):
+        write(folder, "member.toml", given.encode() + text)
+        is_so = say(folder, "check", "member.toml")
+        expect("the ignored keys", (is_so.said, is_so.status), (said, 0))
+
+
+@check
 def closed_streams_leave_files_alone(folder, port):
     """What can't be printed or said anywhere isn't written into a file that was opened, and doesn't begin a member."""
     journal = b"BRACHAJ2" + struct.pack(">QBBHB3xx", 7, 4, 1, 1, 1)

@@ -38,9 +38,9 @@ use std::sync::Arc;
 use terms::{Header, Size};
 use transcripts::audit_text;
 use troubles::{
-    Failure, Fault, ReadFile, Text, Whereabouts, journal_failure, long_failure, not_old_failure,
-    not_text, old_failure, read_file, script_failure, settings_failure, stray_trouble,
-    transcript_failure,
+    Failure, Fault, ReadFile, Text, Trouble, Whereabouts, journal_failure, long_failure,
+    not_old_failure, not_text, old_failure, read_file, script_failure, settings_failure,
+    stray_trouble, strays_trouble, transcript_failure,
 };
 
 /// Reads lines from the standard input, and answers each as it comes.
@@ -80,15 +80,29 @@ pub fn read_settings(rt: &HostRuntime, path: &str) -> Result<Settings, Failure>
     }
 }
 
-/// Says on the standard error which keys of the text are ignored, a line for each.
+/// The number of ignored keys that are named.
+const NAMED: usize = 20;
+
+/// Says on the standard error which keys of the text are ignored: a line for each of the first 20,
+/// and one with the number of the others.
 fn warn_of_strays(rt: &HostRuntime, path: &str, text: &str) {
     let Ok(strays) = strays_of(rt.alloc(), text) else {
         return;
     };
-    for stray in &strays {
-        if let Some(trouble) = stray_trouble(rt.alloc(), path, text, stray) {
-            let _unsaid = eprintln!(rt; "{trouble}");
-        }
+    let named = strays.len().min(NAMED);
+    for stray in &strays[..named] {
+        warn(rt, stray_trouble(rt.alloc(), path, text, stray));
+    }
+    let others = strays.len() - named;
+    if others > 0 {
+        warn(rt, strays_trouble(rt.alloc(), path, others));
+    }
+}
+
+/// Says on the standard error what can be told.
+fn warn(rt: &HostRuntime, trouble: Option<Trouble>) {
+    if let Some(trouble) = trouble {
+        let _unsaid = eprintln!(rt; "{trouble}");
     }
 }
 

@@ -115,8 +115,12 @@ key_name name = cut_text (not (is_bare name)) name
 
 -- what is told of it
 abbrev pub stray_words : List ℕ → Bool → List ℕ
-stray_words name true = name ++ codes ": stands in a table, ignored"
-stray_words name false = name ++ codes ": no key of the settings, ignored"
+stray_words name true = key_name name ++ codes ": stands in a table, ignored"
+stray_words name false = key_name name ++ codes ": no key of the settings, ignored"
+
+-- what is told of so many that aren't named
+abbrev pub strays_words : ℕ → List ℕ
+strays_words count = codes "more keys, ignored: " ++ decimal count
 
 -- where a journal with these bytes is wrong by this fault, or all of it where that isn't known
 abbrev pub IsJournalPlace : JournalFault → List ℕ → Whereabouts → Type 0

@@ -14,6 +14,6 @@ pub use fault::Fault;
 pub use reading::{Text, read_file};
 pub use telling::{
     ReadFile, journal_failure, long_failure, not_old_failure, not_text, old_failure, place_of,
-    script_failure, settings_failure, stray_trouble, transcript_failure,
+    script_failure, settings_failure, stray_trouble, strays_trouble, transcript_failure,
 };
 pub use trouble::{Failure, Trouble, Whereabouts, trouble_of};

@@ -1,6 +1,6 @@
 //! The words on faults in texts and journals.
 
-ghost use Rattle.troubles.specs.Tellings.{IsJournalPlace, IsJournalWords, IsLineOf, IsLongWords, IsOldPlace, IsOwnerWords, IsNotOldWords, IsPlaceOfKey, AreLineWords, IsLineWords, cut_text, ends_blank, front_of, headless_words, is_bare, is_quoted, is_unbare, key_name, more_text, AreScriptWords, IsScriptPlace, IsScriptWords, IsOrderOf, IsWhyAt, IsSettingsPlace, IsSettingsWords, IsStrayPlace, IsTranscriptPlace, IsTranscriptWords, of_settings, place_at, size_key, stray_words};
+ghost use Rattle.troubles.specs.Tellings.{IsJournalPlace, IsJournalWords, IsLineOf, IsLongWords, IsOldPlace, IsOwnerWords, IsNotOldWords, IsPlaceOfKey, AreLineWords, IsLineWords, cut_text, ends_blank, front_of, headless_words, is_bare, is_quoted, is_unbare, key_name, more_text, AreScriptWords, IsScriptPlace, IsScriptWords, IsOrderOf, IsWhyAt, IsSettingsPlace, IsSettingsWords, IsStrayPlace, IsTranscriptPlace, IsTranscriptWords, of_settings, place_at, size_key, stray_words, strays_words};
 ghost use Rattle.troubles.specs.Troubles.{IsTold};
 ghost use Rattle.commands.specs.declared.fault.SimulateFault.TheVariants as unplayed;
 ghost use Rattle.troubles.specs.declared.fault.Fault.TheVariants as ends;
@@ -143,10 +143,60 @@ fn stray_words(alloc: Global, stray: &Stray) -> Result<String, AllocError>
     ensures { IfOk result
         (λ text. string_bytes text ≡ stray_words (string_bytes stray.now.name) stray.now.in_table) }
 {
+    let name = key_name(alloc, stray.name.as_str())?;
     if stray.in_table {
-        return format!(in alloc; "{}: {IN_TABLE}", stray.name);
+        return format!(in alloc; "{name}: {IN_TABLE}");
     }
-    format!(in alloc; "{}: {UNKNOWN}", stray.name)
+    format!(in alloc; "{name}: {UNKNOWN}")
+}
+
+/// Returns the name of a key as it is told: the first 200 characters, in quotes unless TOML takes
+/// the name without.
+fn key_name(alloc: Global, name: &str) -> Result<String, AllocError>
+    ensures { IfOk result (λ text. string_bytes text ≡ key_name name.now) }
+{
+    cut_words(alloc, name, !is_bare(name.as_bytes()))
+}
+
+/// Returns `true` if TOML takes a key of this name without quotes: it has letters, digits, `_` and
+/// `-` alone, at least one.
+fn is_bare(name: &[u8]) -> bool
+    ensures { result ≡ is_bare name.now }
+{
+    !name.is_empty() && !has_unbare(name)
+}
+
+/// Returns `true` if a byte can't stand in a key without quotes.
+fn has_unbare(name: &[u8]) -> bool
+    ensures { result ≡ list_any is_unbare name.now }
+{
+    name.iter().any(|byte| is_unbare(*byte))
+}
+
+/// Returns `true` if the byte can't stand in a key without quotes.
+fn is_unbare(byte: u8) -> bool
+    ensures { result ≡ is_unbare byte }
+{
+    !(byte.is_ascii_alphanumeric() || byte == b'_' || byte == b'-')
+}
+
+/// Returns what can be told of the keys of a text of settings that are ignored and weren't named:
+/// how many there are.
+pub fn strays_trouble(alloc: Global, path: &str, count: usize) -> Option<Trouble>
+    ensures { IfSome result
+        (IsTold path.now (λ at. at ≡ whereabouts.Whole) (λ words. words ≡ strays_words count)) }
+{
+    match strays_words(alloc, count) {
+        Ok(words) => trouble_of(alloc, path, Whereabouts::Whole, &words),
+        Err(_) => None,
+    }
+}
+
+/// Returns what is told of so many keys that are ignored.
+fn strays_words(alloc: Global, count: usize) -> Result<String, AllocError>
+    ensures { IfOk result (λ text. string_bytes text ≡ strays_words count) }
+{
+    format!(in alloc; "more keys, ignored: {count}")
 }
 
 /// The line at which a key stands that is ignored, or the whole text where that line isn't found.
