@@ -291,6 +291,25 @@ def the_first_ignored_keys_are_named(folder, port):
 
 
 @check
+def a_name_prints_no_line_of_its_own(folder, port):
+    """A path, in an argument or in the settings, is shown in quotes if it has what no reader sees, and else as it is."""
+    hidden = "x\x1b]0;y\x07\r\nbracha: fine\u202e"
+    shown = r'"x\u{1b}]0;y\u{7}\r\nbracha: fine\u{202e}"'
+    for path, told in ((hidden, shown), ('a "b" \\ü', 'a "b" \\ü')):
+        expect("the second line", say(folder, "dump", path), ("", f"bracha: file\n{told}: open: No such file or directory (os error 2)\n", 1))
+        write(folder, path, b"n 1\nt 0\nquestions 1\nliars\nseed 1\n")
+        expect("one file", say(folder, "--quiet", "simulate", "--trace", path, path), ("", f"bracha: same file {told}\n", 2))
+    peers = [f"127.0.0.1:{port + it}" for it in range(4)]
+    quoted = lambda path: '"' + "".join(f"\\u{ord(it):04x}" for it in path) + '"'
+    for path, told in (("j\nrecords 12345", r'"j\nrecords 12345"'), ("j 1", "j 1")):
+        text = settings(1, peers, f"127.0.0.1:{port + 4}", t=1).replace(b"'member.journal'", quoted(path).encode())
+        write(folder, "member.toml", text + f"desk-socket = {quoted(path)}\nepochs = {quoted(path)}\n".encode())
+        lines = say(folder, "--quiet", "check", "member.toml").printed.splitlines()
+        expect("the paths", [it for it in lines if it.split()[0] not in ("cluster", "peer", "desk")],
+               [f"journal {told}", f"desk-socket {told}", f"epochs {told}"])
+
+
+@check
 def closed_streams_leave_files_alone(folder, port):
     """What can't be printed or said anywhere isn't written into a file that was opened, and doesn't begin a member."""
     journal = b"BRACHAJ2" + struct.pack(">QBBHB3xx", 7, 4, 1, 1, 1)

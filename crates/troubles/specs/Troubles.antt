@@ -1,6 +1,7 @@
 -- The second line of a fault.
 use Rattle.std.specs.Prelude.{ℕ, ◌≡◌, List, [], ◌++◌, codes, Option, IfSome, string_bytes}
 use Rattle.std.specs.Fmt.{decimal}
+use Rattle.commands.specs.Quoting.{visible_text}
 use Rattle.troubles.specs.declared.trouble.Whereabouts.{Whereabouts}
 use Rattle.troubles.specs.declared.trouble.Whereabouts.TheVariants as place
 use Rattle.troubles.specs.declared.trouble.Trouble.{Trouble}
@@ -17,9 +18,9 @@ place_text place.Write = codes ": write"
 place_text place.Connect = codes ": connect"
 place_text place.Listen = codes ": listen"
 
--- the thing, the place and the words
+-- the thing, as it is shown, the place and the words
 abbrev pub trouble_text : Trouble → List ℕ
-trouble_text trouble = string_bytes trouble.thing ++ (place_text trouble.place ++ (codes ": " ++ string_bytes trouble.words))
+trouble_text trouble = visible_text (string_bytes trouble.thing) ++ (place_text trouble.place ++ (codes ": " ++ string_bytes trouble.words))
 
 -- it is the text that a value prints as, where that is known
 abbrev pub IsPrinted : Option (List ℕ) → List ℕ → Type 0

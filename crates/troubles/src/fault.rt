@@ -5,7 +5,7 @@ ghost use Rattle.troubles.specs.Faults.{IsMeant, IsFileFault, fault_status, of_j
 ghost use Rattle.std.specs.Prelude.{◌≡◌};
 
 use chances::PlayFault;
-use commands::{DumpFault, InitFault, MigrationFault, SimulateFault, TalkFault};
+use commands::{DumpFault, InitFault, MigrationFault, SimulateFault, TalkFault, Visible};
 use hearing::HearFault;
 use journal::JournalFault;
 use machine::RunFault;
@@ -26,7 +26,7 @@ pub enum Fault {
     #[error("argument {0} is not UTF-8")]
     Argument(usize),
     /// A page would be written over the script, or over the other page: this path names that file.
-    #[error("same file {0}")]
+    #[error("same file {}", Visible::of(.0.as_str()))]
     SameFile(String),
     /// The time that a client is to wait isn't one.
     #[error("timeout")]

@@ -6,6 +6,7 @@ ghost use Rattle.troubles.specs.declared.trouble.Whereabouts.TheVariants as wher
 ghost use Rattle.std.specs.Prelude.{◌≡◌, IfSome, None, false, true, ⊤};
 
 use crate::fault::Fault;
+use commands::Visible;
 use std::alloc::Global;
 use std::{fmt, io};
 
@@ -51,8 +52,8 @@ impl fmt::Display for Whereabouts {
 }
 
 /// What can be told of the thing that a fault is about. Its text is the second line that is printed
-/// of a fault where the words ask for it: the thing, the place, and what is wrong there, as in
-/// `a.toml: read: Permission denied (os error 13)`.
+/// of a fault where the words ask for it: the thing, in quotes if it has a character that no reader
+/// sees, the place, and what is wrong there, as in `a.toml: read: Permission denied (os error 13)`.
 #[derive(Debug, Drop)]
 pub struct Trouble {
     /// The path of a file, or an address.
@@ -69,7 +70,8 @@ impl fmt::Display for Trouble {
     ghost output = { λ trouble. Some (trouble_text trouble) };
 
     fn fmt<W: fmt::Write>(&self, f: &mut fmt::Formatter<W>) -> fmt::Result {
-        write!(f, "{}{}: {}", self.thing, self.place, self.words)
+        let thing = Visible::of(self.thing.as_str());
+        write!(f, "{thing}{}: {}", self.place, self.words)
     }
 }
 
