@@ -273,21 +273,12 @@ def a_second_line_is_short(folder, _):
 
 
 @check
-def the_first_ignored_keys_are_named(folder, port):
-    """Of the keys that are ignored 20 are named, in quotes unless TOML takes them without, and the others are counted."""
-    text = settings(1, [f"127.0.0.1:{port + it}" for it in range(4)], f"127.0.0.1:{port + 4}", t=1)
-    write(folder, "member.journal", b"BRACHAJ2" + struct.pack(">QBBHB3xx", 7, 4, 1, 1, 1))
-    named = lambda name, line: f"member.toml{line}: {name}: no key of the settings, ignored\n"
-    odd = r'"\u001b]0;x\u0007\nbracha: all fine\n"', r'"\u{1b}]0;x\u{7}\nbracha: all fine\n"'
-    for given, said in (('a-B_9 = 1\n"b c" = 2\n"ü" = 3\n"" = 4\n', named('""', "") + named("a-B_9", ":1") + named('"b c"', "") + named('"ü"', "")),
-                        (f"{odd[0]} = 1\n", named(odd[1], "")),
-                        (f"{'k' * 300} = 1\n", named("k" * 200 + " ..", ":1")),
-                        ("".join(f"k{it} = 1\n" for it in range(10, 30)), "".join(named(f"k{it}", f":{it - 9}") for it in range(10, 30))),
-                        ("".join(f"k{it} = 1\n" for it in range(10000, 30000)),
-                         "".join(named(f"k{it}", f":{it - 9999}") for it in range(10000, 10020)) + "member.toml: more keys, ignored: 19980\n")):
-        write(folder, "member.toml", given.encode() + text)
-        is_so = say(folder, "check", "member.toml")
-        expect("the ignored keys", (is_so.said, is_so.status), (said, 0))
+def a_line_is_found_among_many(folder, _):
+    """The line that is meant is found among 16 million empty ones, in little time and memory."""
+    write(folder, "empty.script", b"n 1\nt 0\nquestions 1\nliars\n" + b"\n" * (1 << 24) + b"seed x\n")
+    is_so = say(folder, "simulate", "empty.script", front=["sh", "-c", 'ulimit -v 200000; exec "$0" "$@"'])
+    expect("the last line", is_so, ("", f"bracha: line {(1 << 24) + 5}\nempty.script:{(1 << 24) + 5}: seed x: word 2 must be a number below 2^64: "
+                                    "the fifth line is `seed S`: a number S\n", 1))
 
 
 @check
@@ -307,6 +298,24 @@ def a_name_prints_no_line_of_its_own(folder, port):
         lines = say(folder, "--quiet", "check", "member.toml").printed.splitlines()
         expect("the paths", [it for it in lines if it.split()[0] not in ("cluster", "peer", "desk")],
                [f"journal {told}", f"desk-socket {told}", f"epochs {told}"])
+
+
+@check
+def the_first_ignored_keys_are_named(folder, port):
+    """Of the keys that are ignored 20 are named, in quotes unless TOML takes them without, and the others are counted."""
+    text = settings(1, [f"127.0.0.1:{port + it}" for it in range(4)], f"127.0.0.1:{port + 4}", t=1)
+    write(folder, "member.journal", b"BRACHAJ2" + struct.pack(">QBBHB3xx", 7, 4, 1, 1, 1))
+    named = lambda name, line: f"member.toml{line}: {name}: no key of the settings, ignored\n"
+    odd = r'"\u001b]0;x\u0007\nbracha: all fine\n"', r'"\u{1b}]0;x\u{7}\nbracha: all fine\n"'
+    for given, said in (('a-B_9 = 1\n"b c" = 2\n"ü" = 3\n"" = 4\n', named('""', "") + named("a-B_9", ":1") + named('"b c"', "") + named('"ü"', "")),
+                        (f"{odd[0]} = 1\n", named(odd[1], "")),
+                        (f"{'k' * 300} = 1\n", named("k" * 200 + " ..", ":1")),
+                        ("".join(f"k{it} = 1\n" for it in range(10, 30)), "".join(named(f"k{it}", f":{it - 9}") for it in range(10, 30))),
+                        ("".join(f"k{it} = 1\n" for it in range(10000, 30000)),
+                         "".join(named(f"k{it}", f":{it - 9999}") for it in range(10000, 10020)) + "member.toml: more keys, ignored: 19980\n")):
+        write(folder, "member.toml", given.encode() + text)
+        is_so = say(folder, "check", "member.toml")
+        expect("the ignored keys", (is_so.said, is_so.status), (said, 0))
 
 
 @check

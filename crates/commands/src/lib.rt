@@ -50,6 +50,7 @@ pub use survey::{
     Next, Word, later_word, next_of, remarks, tell_decision, transcript_bit, word_of,
 };
 pub use text_lines::{
-    line_at, line_in_table, line_of_byte, line_of_key, line_of_name, lines_in, text_fault,
+    count_lines, line_at, line_in_table, line_of_byte, line_of_key, line_of_name, lines_in,
+    text_fault,
 };
 pub use transcript::{fetch_transcript, transcript_line};

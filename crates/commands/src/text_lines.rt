@@ -16,17 +16,20 @@ pub fn lines_in(alloc: Global, text: &[u8]) -> Result<Vec<&[u8]>, AllocError>
     text.split(|byte| *byte == b'\n').collect(alloc)
 }
 
-/// The line of that number, counted from 1, without the byte 10 that ends it.
-pub fn line_at<'a>(
-    alloc: Global,
-    text: &'a [u8],
-    number: usize,
-) -> Result<Option<&'a [u8]>, AllocError>
-    ensures { IfOk result
-        (λ line. option_map (λ line. line.now) line ≡ slice_get (lines_in text.now) (number - 1)) }
+/// Returns the line of that number, counted from 1, without the byte 10 that ends it. It takes no
+/// memory.
+pub fn line_at(text: &[u8], number: usize) -> Option<&[u8]>
+    ensures { option_map (λ line. line.now) result ≡ slice_get (lines_in text.now) (number - 1) }
 {
-    let lines = lines_in(alloc, text)?;
-    Ok(lines.get(number.saturating_sub(1)).copied())
+    let before = number.saturating_sub(1);
+    text.split(|byte| *byte == b'\n').nth(before)
+}
+
+/// Returns how many lines a text has. It takes no memory.
+pub fn count_lines(text: &[u8]) -> usize
+    ensures { result ≡ length (lines_in text.now) }
+{
+    text.split(|byte| *byte == b'\n').count()
 }
 
 /// The number of a line, counted from 1, that gives the key a value at its beginning; the first,
@@ -138,12 +141,12 @@ fn ends_key(byte: u8) -> bool
     byte == b' ' || byte == b'='
 }
 
-/// The number of the line, counted from 1, in which the byte at this place stands.
-pub fn line_of_byte(alloc: Global, text: &[u8], place: usize) -> Result<usize, AllocError>
-    ensures { IfOk result (λ number. number ≡ length (lines_in (take place text.now))) }
+/// Returns the number of the line, counted from 1, in which the byte at this place stands.
+pub fn line_of_byte(text: &[u8], place: usize) -> usize
+    ensures { result ≡ length (lines_in (take place text.now)) }
 {
     let front = &text[..place.min(text.len())];
-    Ok(lines_in(alloc, front)?.len())
+    count_lines(front)
 }
 
 /// The line of a text, counted from 1, at which the reader of TOML fails, and why it does; none
@@ -160,6 +163,6 @@ pub fn text_fault(alloc: Global, text: &str) -> Result<Option<(usize, String)>, 
     let Some(span) = error.span() else {
         return Err(AllocError);
     };
-    let line = line_of_byte(alloc, text.as_bytes(), span.start)?;
+    let line = line_of_byte(text.as_bytes(), span.start);
     Ok(Some((line, String::from_str(alloc, error.message())?)))
 }

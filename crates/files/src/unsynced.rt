@@ -34,7 +34,7 @@ fn first_text(alloc: Global, text: &[u8]) -> Result<Option<String>, AllocError>
         (λ found. IfSome found (λ line. slice_get (lines_in text.now) 0
         ≡ Some (string_bytes line))) }
 {
-    let Some(line) = line_at(alloc, text, 1)? else {
+    let Some(line) = line_at(text, 1) else {
         return Ok(None);
     };
     match str::from_utf8(line) {

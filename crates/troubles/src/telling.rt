@@ -21,8 +21,8 @@ use crate::forms::{Order, form_of, head_order, order_of};
 use crate::misfits::why_words;
 use crate::trouble::{Failure, Trouble, Whereabouts, trouble_of};
 use commands::{
-    Quoted, SimulateFault, asked_words, bytes_at, fault_place, has_hidden, key_words, line_at,
-    line_in_table, line_of_key, line_of_name, lines_in, long_owner, old_fault_place, other_owner,
+    Quoted, SimulateFault, asked_words, bytes_at, count_lines, fault_place, has_hidden, key_words,
+    line_at, line_in_table, line_of_key, line_of_name, long_owner, old_fault_place, other_owner,
     owner, text_fault,
 };
 use journal::JournalFault;
@@ -479,7 +479,7 @@ fn script_words(alloc: Global, text: &[u8], number: usize) -> Result<String, All
         (nat_lt number (length (lines_in text.now))) (string_bytes words)) }
 {
     let line = words_at(alloc, text, number)?;
-    let order = order_at(alloc, text, number)?;
+    let order = order_at(text, number);
     let why = why_at(alloc, text, number, order)?;
     let form = form_of(order);
     format!(in alloc; "{line}: {why}{form}")
@@ -487,22 +487,22 @@ fn script_words(alloc: Global, text: &[u8], number: usize) -> Result<String, All
 
 /// Returns what the line of that number of a script is to be: one of the first five that say
 /// something, or an event.
-fn order_at(alloc: Global, text: &[u8], number: usize) -> Result<Order, AllocError>
-    ensures { IfOk result (λ order. IsOrderOf (slice_get (lines_in text.now) (number - 1)) order) }
+fn order_at(text: &[u8], number: usize) -> Order
+    ensures { IsOrderOf (slice_get (lines_in text.now) (number - 1)) result }
 {
-    let line = line_at(alloc, text, number)?;
-    let lines = lines_in(alloc, text)?;
-    let before = number.saturating_sub(1).min(lines.len());
-    match (head_order(count_said(&lines[..before])), line) {
-        (Some(order), _) => Ok(order),
-        (None, Some(line)) => Ok(order_of(line)),
-        (None, None) => Ok(Order::Other),
+    let line = line_at(text, number);
+    match (head_order(count_said(text, number)), line) {
+        (Some(order), _) => order,
+        (None, Some(line)) => order_of(line),
+        (None, None) => Order::Other,
     }
 }
 
-/// Returns how many of the lines say something.
-fn count_said(lines: &[&[u8]]) -> usize {
-    lines.iter().filter(|line| is_said(line)).count()
+/// Returns how many of the lines before the one of that number say something.
+fn count_said(text: &[u8], number: usize) -> usize {
+    let lines = text.split(|byte| *byte == b'\n');
+    let before = lines.take(number.saturating_sub(1));
+    before.filter(|line| is_said(line)).count()
 }
 
 /// Returns `true` if the line says something: it isn't empty, and no comment.
@@ -519,7 +519,7 @@ fn why_at(alloc: Global, text: &[u8], number: usize, order: Order) -> Result<Str
     ensures { IfOk result
         (λ why. IsWhyAt order (slice_get (lines_in text.now) (number - 1)) (string_bytes why)) }
 {
-    match line_at(alloc, text, number)? {
+    match line_at(text, number) {
         Some([]) | None => Ok(String::new(alloc)),
         Some(line) => why_words(alloc, line, order),
     }
@@ -574,15 +574,8 @@ fn words_at(alloc: Global, text: &[u8], number: usize) -> Result<String, AllocEr
         (λ words. AreLineWords (slice_get (lines_in text.now) (number - 1))
         (nat_lt number (length (lines_in text.now))) (string_bytes words)) }
 {
-    let count = count_lines(alloc, text)?;
-    words_by(alloc, line_at(alloc, text, number)?, number < count)
-}
-
-/// Returns how many lines there are.
-fn count_lines(alloc: Global, text: &[u8]) -> Result<usize, AllocError>
-    ensures { IfOk result (λ count. count ≡ length (lines_in text.now)) }
-{
-    Ok(lines_in(alloc, text)?.len())
+    let count = count_lines(text);
+    words_by(alloc, line_at(text, number), number < count)
 }
 
 /// The words for a line, or for none. An empty line behind all others is none; others follow it or
