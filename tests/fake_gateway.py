@@ -284,7 +284,7 @@ def handler(cluster, a, token, page):
             try:
                 body = json.loads(body)
             except ValueError:
-                return self.reply(400, {"error": "json"})
+                return self.reply(400, {"error": "body"})
             if self.path == "/fake/members":
                 with cluster.lock:
                     cluster.hand[body["member"]] = True
@@ -298,8 +298,8 @@ def handler(cluster, a, token, page):
             match = re.fullmatch(r"/v1/questions/(\d{1,5})", self.path)
             if not match or int(match[1]) >= cluster.questions:
                 return self.reply(404, {"error": "question"})
-            if body.get("bit") not in (0, 1) or isinstance(body.get("bit"), bool):
-                return self.reply(400, {"error": "bit"})
+            if body not in ({"bit": 0}, {"bit": 1}) or isinstance(body["bit"], bool):
+                return self.reply(400, {"error": "body"})
             q = int(match[1])
             with cluster.lock:
                 s = cluster.states[q]

@@ -419,6 +419,14 @@ def what_is_refused_is_named(folder, port):
             (400, "body", "POST", "/v1/questions/1", b'{"bit":true}', good),
             (400, "body", "POST", "/v1/questions/1", b'{"bit":1', good),
             (400, "body", "POST", "/v1/questions/1", b"", good),
+            (400, "body", "POST", "/v1/questions/1", b'{"bit":0,"bit":1}', good),
+            (400, "body", "POST", "/v1/questions/1", b'{"bit":1,"bit":1}', good),
+            (400, "body", "POST", "/v1/questions/1", b'{"bit":1,"wait":20}', good),
+            (400, "body", "POST", "/v1/questions/1", b'{"a":0,"bit":1}', good),
+            (400, "body", "POST", "/v1/questions/1", b'{"Bit":1}', good),
+            (400, "body", "POST", "/v1/questions/1", b'{}', good),
+            (400, "body", "POST", "/v1/questions/1", b'[{"bit":1}]', good),
+            (400, "body", "POST", "/v1/questions/1", b'{"bit":{"bit":1}}', good),
         ]
         found = []
         for status, word, method, target, body, heads in rows:
@@ -428,6 +436,7 @@ def what_is_refused_is_named(folder, port):
             found += differs(f"the remedy of {status}", remedy is None or is_so[1].get(remedy[0]) == remedy[1], True)
         found += differs("nothing was proposed", gateway.json("/v1/questions")["states"], "-" * 512)
         found += differs("nor handed on", [it for it in cluster.liar.lines if it.startswith("PROPOSE")], [])
+        found += differs("a body with blanks", gateway.ask("POST", "/v1/questions/4?wait=20", b' { "bit" : 0 }\n', **good)[0], 200)
         for heads in ({}, {"Origin": f"http://{here}"}, {"Content_Type": "application/json; charset=utf-8"}):
             found += differs(f"with its token and {heads}", gateway.propose(1, 0, "?wait=20", TOKEN, **heads)[0], 200)
         found += differs("refusals", f"bracha_gateway_refusals_total {len(rows)}\n" in gateway.ask("GET", "/metrics")[2].decode(), True)

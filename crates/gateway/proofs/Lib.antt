@@ -1,3 +1,4 @@
+mod Bodies
 mod Cuts
 mod Items
 mod Keeping

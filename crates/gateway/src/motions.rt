@@ -1,7 +1,8 @@
-//! The body of a proposal: JSON that has a bit.
+//! The body of a proposal: an object of JSON that has a bit, and nothing else.
 
 ghost use Rattle.std.specs.Prelude.{◌≡◌, Bool, IfOk, IfSome, IsNone};
 ghost use Rattle.json.specs.Value.{value_view};
+ghost use Rattle.json.specs.Json.{member, no_members, object};
 ghost use Rattle.gateway.specs.Motions.{HasBit, IsMotion, bit_text};
 
 use json::{Error, Scratch, Value};
@@ -27,16 +28,32 @@ pub(crate) fn motion_of(alloc: Global, body: &[u8]) -> Result<Option<bool>, Allo
     }
 }
 
-/// Returns the bit of the value's member `bit`.
+/// Returns the bit of a value that is an object of one member, `bit`.
 fn bit_of(value: &Value<'_>) -> Option<bool>
     ensures some { IfSome result (HasBit (value_view value.now)) }
     ensures none { IsNone result → (bit : Bool) → HasBit (value_view value.now) bit → ⊥ }
 {
-    match value.get("bit") {
-        Some(member) => match member.as_number() {
-            Some(number) => bit_in(number.as_bytes()),
-            None => None,
+    match value {
+        Value::Object(members) => match members.as_slice() {
+            [member] => bit_at(member.0, &member.1),
+            _ => None,
         },
+        _ => None,
+    }
+}
+
+/// Returns the bit of a member of this name and value.
+fn bit_at(name: &str, value: &Value<'_>) -> Option<bool>
+    ensures some { IfSome result
+        (HasBit (object (member name.now (value_view value.now) no_members))) }
+    ensures none { IsNone result → (bit : Bool) →
+        HasBit (object (member name.now (value_view value.now) no_members)) bit → ⊥ }
+{
+    if name != "bit" {
+        return None;
+    }
+    match value.as_number() {
+        Some(number) => bit_in(number.as_bytes()),
         None => None,
     }
 }

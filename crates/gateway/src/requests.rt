@@ -118,7 +118,7 @@ pub enum Refusal {
     Type,
     /// The token is missing or wrong.
     Token,
-    /// The body isn't `{"bit":0}` or `{"bit":1}`.
+    /// The body isn't an object of JSON whose only member is `bit`, 0 or 1.
     Body,
     /// Memory for an answer was refused.
     Memory,
