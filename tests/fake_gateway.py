@@ -272,7 +272,7 @@ def handler(cluster, a, token, page):
             length = self.headers.get("Content-Length", "")
             if not length.isdigit() or int(length) > 1000:
                 self.close_connection = True
-                return self.reply(413, {"error": "length"})
+                return self.reply(413, "")
             body = self.rfile.read(int(length))
             origin = self.headers.get("Origin")
             if origin is not None and origin.partition("://")[2] not in names:

@@ -624,6 +624,14 @@ def hostile_clients_harm_nobody(folder, port):
         found += differs("garbage that was refused", sum(it.startswith((b"HTTP/1.1 4", b"HTTP/1.1 5")) for it in said) > 4000, True)
         found += differs("a path of 64 KiB", (raw(gateway, b"GET /" + b"a" * 65536 + b" HTTP/1.1\r\n" + head + b"\r\n") or b"")[:12] in
                          (b"HTTP/1.1 414", b"HTTP/1.1 431", b"HTTP/1.1 400", b""), True)
+        # What isn't read to its end has an answer without a body.
+        post, json_type = b"POST /v1/questions/9 HTTP/1.1\r\n" + head, b"Content-Type: application/json\r\n"
+        for status, data in ((b"400", b"PROPOSE 9 1\n\r\n\r\n"), (b"400", b"GET / HTTP/9.9\r\n" + head + b"\r\n"), (b"400", b"GET / HTTP/1.1\r\n\r\n"),
+                             (b"413", post + json_type + b"Content-Length: 4097\r\n\r\n"), (b"414", b"GET /" + b"a" * 20_000 + b" HTTP/1.1\r\n" + head + b"\r\n"),
+                             (b"431", b"GET / HTTP/1.1\r\n" + head + b"X: " + b"a" * 20_000 + b"\r\n\r\n"),
+                             (b"501", post + json_type + b"Transfer-Encoding: gzip, chunked\r\n\r\n0\r\n\r\n")):
+            said = raw(gateway, data) or b""
+            found += differs(f"{data[:60]!r}", (said[9:12], said.partition(b"\r\n\r\n")[2]), (status, b""))
         long = b"POST /v1/questions/9 HTTP/1.1\r\n" + head + b"Content-Type: application/json\r\nContent-Length: 2000000\r\n\r\n" + b" " * 2_000_000
         found += differs("a body of 2 MB", (raw(gateway, long) or b"")[:12] in (b"HTTP/1.1 413", b""), True)
         links = idle_links(gateway, min(1000, resource.getrlimit(resource.RLIMIT_NOFILE)[0] - 200))

@@ -122,8 +122,6 @@ pub enum Refusal {
     Body,
     /// Memory for an answer was refused.
     Memory,
-    /// The body is too long.
-    Length,
     /// As many clients are served as the gateway takes.
     Busy,
     /// No member answers.
@@ -151,7 +149,6 @@ pub fn status_of(refusal: Refusal) -> u16
         Refusal::Token => 401,
         Refusal::Body => 400,
         Refusal::Memory => 503,
-        Refusal::Length => 413,
         Refusal::Busy => 429,
         Refusal::Silent => 503,
         Refusal::Undecided => 404,
@@ -176,7 +173,6 @@ pub fn word_of(refusal: Refusal) -> &'static str
         Refusal::Token => "token",
         Refusal::Body => "body",
         Refusal::Memory => "memory",
-        Refusal::Length => "length",
         Refusal::Busy => "busy",
         Refusal::Silent => "silent",
         Refusal::Undecided => "undecided",
