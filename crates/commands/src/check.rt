@@ -52,7 +52,7 @@ fn settings_text(alloc: Global, settings: &Settings) -> Result<String, AllocErro
     format!(in alloc;
         "{}journal {}\n{}desk {}\n{}",
         header_line(alloc, &settings.header)?,
-        Visible::of(settings.journal.as_str()),
+        path_text(alloc, &settings.journal)?,
         peer_lines(alloc, &settings.peers)?,
         address_text(alloc, &settings.desk)?,
         options_lines(alloc, settings)?
@@ -106,7 +106,7 @@ fn socket_line(alloc: Global, socket: &Option<String>) -> Result<String, AllocEr
         (option_map (λ path. visible_text (string_bytes path)) socket.now)) }
 {
     match socket {
-        Some(path) => format!(in alloc; "desk-socket {}\n", Visible::of(path.as_str())),
+        Some(path) => format!(in alloc; "desk-socket {}\n", path_text(alloc, path)?),
         None => Ok(String::new(alloc)),
     }
 }
@@ -118,9 +118,17 @@ fn epochs_line(alloc: Global, epochs: &Option<String>) -> Result<String, AllocEr
         (option_map (λ path. visible_text (string_bytes path)) epochs.now)) }
 {
     match epochs {
-        Some(folder) => format!(in alloc; "epochs {}\n", Visible::of(folder.as_str())),
+        Some(folder) => format!(in alloc; "epochs {}\n", path_text(alloc, folder)?),
         None => Ok(String::new(alloc)),
     }
+}
+
+/// Returns a path as it is shown.
+fn path_text(alloc: Global, path: &String) -> Result<String, AllocError>
+    ensures { IfOk result (λ text. string_bytes text ≡ visible_text (string_bytes path.now)) }
+{
+    let shown = Visible::of(path.as_str());
+    format!(in alloc; "{shown}")
 }
 
 /// Writes how many records the journal that the disk has holds, `records N`, if a member of this
