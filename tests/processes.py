@@ -274,11 +274,10 @@ def a_second_line_is_short(folder, _):
 
 @check
 def a_line_is_found_among_many(folder, _):
-    """The line that is meant is found among 16 million empty ones, in little time and memory."""
-    write(folder, "empty.script", b"n 1\nt 0\nquestions 1\nliars\n" + b"\n" * (1 << 24) + b"seed x\n")
-    is_so = say(folder, "simulate", "empty.script", front=["sh", "-c", 'ulimit -v 200000; exec "$0" "$@"'])
-    expect("the last line", is_so, ("", f"bracha: line {(1 << 24) + 5}\nempty.script:{(1 << 24) + 5}: seed x: word 2 must be a number below 2^64: "
-                                    "the fifth line is `seed S`: a number S\n", 1))
+    """The line that is meant is found among 16 million others, and these are counted, in little memory."""
+    write(folder, "empty.transcript", b"\n" * (1 << 24))
+    is_so = say(folder, *"audit --n 4 --t 1 --questions 1 empty.transcript".split(), front=["sh", "-c", 'ulimit -v 200000; exec "$0" "$@"'])
+    expect("the first line", is_so, ("", "bracha: line 1\nempty.transcript:1: this line is empty\n", 1))
 
 
 @check
