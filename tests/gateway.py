@@ -2,11 +2,11 @@
 """tests/gateway.py [PROGRAM]
 
 Runs clusters of four with a gateway in front of them, one desk of which lies, and looks at each answer over HTTP: questions, proposals,
-events, transcripts, members, metrics, health, the page in headless Chromium; at a chain of epochs, also at made-up desks of which one
-claims slots far ahead; at what is refused, at members that are killed, and at clients that send garbage, stall or stay idle. PROGRAM is
-crates/bracha/out/bracha unless another is named. It takes the ports 28262 to 28297 and 28310 to 28405, and a minute. What Chromium or
-promtool would look at is left out, which is said, where they are missing. Prints what is wrong, and in its last line `N passed, M failed`;
-the status is 1 where M isn't 0.
+events, transcripts, members, metrics, health, the page in headless Chromium; at a chain of epochs; at made-up desks of a chain, of which
+one claims slots far ahead, and of a cluster, of which one tells a decision of each question; at what is refused, at members that are
+killed, and at clients that send garbage, stall or stay idle. PROGRAM is crates/bracha/out/bracha unless another is named. It takes the
+ports 24300 to 24455, and a minute. What Chromium or promtool would look at is left out, which is said, where they are missing. Prints
+what is wrong, and in its last line `N passed, M failed`; the status is 1 where M isn't 0.
 """
 import concurrent.futures
 import contextlib
@@ -305,11 +305,11 @@ def questions_are_told_by_more_than_t(folder, port):
         words = soon(lambda: [it["says"] for it in gateway.json("/v1/questions/20")["members"]] == [0, 0, 0, 1])
         found += differs("the words on 20", words, True)
         found += differs("a made-up decision", gateway.json("/v1/questions/300"),
-                         {"question": 300, "state": "proposed", "members": [{"member": it, "says": 1 if it == 3 else None} for it in range(4)]})
+                         {"question": 300, "state": "unproposed", "members": [{"member": it, "says": 1 if it == 3 else None} for it in range(4)]})
         found += differs("proposed twice", gateway.propose(20, 1), (200, {"question": 20, "state": "decided", "bit": 0, "taken": 0, "have": 4}))
         found += differs("who is asked then", "PROPOSE 20 1" in cluster.liar.lines, False)
         states = gateway.json("/v1/questions?from=0&to=512")
-        letters = "".join("1" if it == 7 else "01"[it % 2] if 20 <= it < 40 else "p" if it == 300 else "-" for it in range(512))
+        letters = "".join("1" if it == 7 else "01"[it % 2] if 20 <= it < 40 else "-" for it in range(512))
         found += differs("the letters", (states["questions"], states["from"], states["to"], states["states"]), (512, 0, 512, letters))
         found += differs("a range", gateway.json("/v1/questions?from=18&to=24")["states"], letters[18:24])
         soon(lambda: len(gateway.json("/v1/members")["members"][3]["contradicts"]) >= 21)
@@ -798,14 +798,15 @@ def a_chain_goes_on(folder, port):
 
 class MadeUpDesks:
     """Desks of a chain of which each tells the slots that it is told to, in order, and says that so many epochs are closed. Those
-    of `late` it tells to one who asks alone."""
+    of `late` it tells to one who asks alone. Those of one cluster say that the questions of `spent` are. A member of `turned` tells
+    the other bits."""
 
-    def __init__(self, folder, port, questions, closed):
+    def __init__(self, folder, port, questions, closed, chain=True):
         self.questions, self.closed, self.told = questions, closed, [[] for _ in closed]
-        self.late, self.asked, self.pause = {}, set(), 0
+        self.late, self.asked, self.pause, self.spent, self.turned = {}, set(), 0, set(), set()
         self.listeners = [socket.create_server(("127.0.0.1", port + me), backlog=64) for me in range(len(closed))]
         self.folder, self.port = folder, port
-        write_client(folder, questions, [f"127.0.0.1:{port + me}" for me in range(len(closed))], True)
+        write_client(folder, questions, [f"127.0.0.1:{port + me}" for me in range(len(closed))], chain)
         for me in range(len(closed)):
             threading.Thread(target=self.accept, args=(me,), daemon=True).start()
 
@@ -826,6 +827,9 @@ class MadeUpDesks:
                 if words[0] == "ASK" and int(words[1]) in self.late:
                     link.sendall(b"DECIDED %d\n" % self.late[int(words[1])])
                     continue
+                if words[0] == "STATE" and int(words[1]) in self.spent and me not in self.turned:
+                    link.sendall(b"SPENT\n")
+                    continue
                 reply = {"EPOCHS": f"EPOCHS {self.closed[me]} {self.closed[me]}", "STATUS": "UP 5 1", "LINKS": "LINKS 4 4 - -", "PROPOSE": "OK",
                          "ASK": "UNDECIDED"}
                 link.sendall(reply.get(words[0], "UNPROPOSED").encode() + b"\n")
@@ -836,7 +840,7 @@ class MadeUpDesks:
         while True:
             part = [it for it in self.told[me] if it >= slot][:500]
             if part:
-                link.sendall("".join(f"DECIDED {it} {it % 2}\n" for it in part).encode())
+                link.sendall("".join(f"DECIDED {it} {(it + (me in self.turned)) % 2}\n" for it in part).encode())
                 slot, quiet = part[-1] + 1, time.monotonic()
             elif time.monotonic() - quiet > 4:
                 link.sendall(b"\n")
@@ -881,7 +885,7 @@ def windows(desks, gateway):
     time.sleep(1)
     first = window(gateway)[0]
     found += differs("the window goes no further than the first of them has come", first <= 9000 - 2 * 2048, True)
-    found += differs("nothing of it is decided", gateway.json(f"/v1/questions/{first + 10}")["state"], "proposed")
+    found += differs("nothing of it is decided", gateway.json(f"/v1/questions/{first + 10}")["state"], "unproposed")
     desks.pause = 0.5
     time.sleep(3)
     found += differs("a proposal that comes while members are asked", gateway.propose(first + 11, 1)[1].get("taken"), 4)
@@ -901,6 +905,9 @@ def windows(desks, gateway):
     found += differs("a new slot", gateway.propose(30_001, 1)[0], 202)
     desks.late[30_001] = 1
     found += differs("one that is told to who asks alone", soon(lambda: gateway.json("/v1/questions/30001")["state"] == "decided", 12), True)
+    desks.late[30_003] = 1
+    desks.told[0] = [*range(30_000), 30_003]
+    found += differs("one that a member tells, and the others to who asks", soon(lambda: gateway.json("/v1/questions/30003")["state"] == "decided", 12), True)
     found += differs("what starts an epoch again", "STATE" in desks.asked, False)
     desks.told[2] = list(range(29_000, 30_000))
     found += differs("one that comes later", soon(lambda: gateway.json(f"/v1/questions/{slot}")["members"][2]["says"] == 0), True)
@@ -927,6 +934,47 @@ def page_of_a_chain(desks, gateway):
 
 
 STATE = "window.brachaLive.state()"
+
+
+@check
+def a_liar_puts_nothing_under_way(folder, port):
+    """A member that tells a decision of each question puts none of them under way, and holds up none that is."""
+    desks = MadeUpDesks(folder, port, 1024, [0, 0, 0, 0], chain=False)
+    with contextlib.closing(desks), gateways(desks) as gateway, contextlib.closing(Events(gateway)) as events:
+        desks.turned.add(3)
+        desks.told[3] = list(range(1024))
+        words = lambda question: [it["says"] for it in gateway.json(f"/v1/questions/{question}")["members"]]
+        found = differs("it tells", soon(lambda: words(1023) == [None, None, None, 0]), True)
+        found += differs("all are up", soon(lambda: member_states(gateway) == ["up"] * 4), True)
+        found += differs("the letters", gateway.json("/v1/questions")["states"], "-" * 1024)
+        found += differs("one of them", gateway.json("/v1/questions/5")["state"], "unproposed")
+        found += differs("how many are open", open_count(gateway), 0)
+        found += differs("a proposal", gateway.propose(1000, 1), (202, {"question": 1000, "state": "proposed", "taken": 4, "have": 0}))
+        found += differs("how many are open then", open_count(gateway), 1)
+        # Three of four members tell so to who asks: the liar's 1,024 questions are asked for after this one.
+        desks.spent.add(1000)
+        begun = time.monotonic()
+        found += differs("it is spent", soon(lambda: gateway.json("/v1/questions/1000")["state"] == "spent", 10), True)
+        found += differs(f"in time ({time.monotonic() - begun:.1f} s)", time.monotonic() - begun < 10, True)
+        # One of two members is correct, though they differ.
+        desks.told[0] = [7]
+        found += differs("two members tell", soon(lambda: gateway.json("/v1/questions/7")["state"] == "proposed"), True)
+        found += differs("which bits", words(7), [1, None, None, 0])
+        found += differs("what is proposed", [it["question"] for it in events.of("proposed")], [1000, 7])
+        desks.told[1] = [7]
+        found += differs("a third one", soon(lambda: gateway.json("/v1/questions/7").get("bit") == 1), True)
+        found += differs("who contradicts", soon(lambda: events.of("contradiction")), [{"member": 3, "question": 7, "says": 0}])
+        found += differs("no other is proposed", [it["question"] for it in events.of("proposed")], [1000, 7])
+        # One that nobody proposed here, and of which the liar alone tells, is spent too once n - t members say so.
+        desks.spent.add(3)
+        with gateways(desks, port=port + 10) as late:
+            letters = lambda: late.json("/v1/questions")["states"]
+            return found + differs("a gateway that starts then", soon(lambda: letters() == "---x---1" + "-" * 1016, 12) or letters(), True)
+
+
+def open_count(gateway):
+    values, _ = samples(gateway.ask("GET", "/metrics")[2].decode())
+    return values["bracha_questions_open"]
 
 
 @check
@@ -980,7 +1028,7 @@ def main():
         folder = f"{room}/{function.__name__}"
         os.makedirs(folder)
         try:
-            return function, function(folder, 28310 + 12 * (number % 8) - 48 * (number // 8))
+            return function, function(folder, 24300 + 12 * number)
         except Exception as error:  # pylint: disable=broad-except
             return function, [f"{type(error).__name__}: {error}"]
 

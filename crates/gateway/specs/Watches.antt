@@ -1,6 +1,6 @@
 -- What members told of the questions of a cluster or a chain, and what may be believed of it.
-use Rattle.std.specs.Prelude.{ℕ, ◌≡◌, ◌<◌, ◌≤◌, ◌+◌, ◌==◌, Bool, true, false, max, min, nat_lt, Option, Some, None, List, [], ◌∷◌, length, slice_get, if◌then◌else◌}
-use Rattle.terms_prelude.specs.Terms.{Size}
+use Rattle.std.specs.Prelude.{ℕ, ◌≡◌, ◌<◌, ◌≤◌, ◌+◌, ◌==◌, Bool, true, false, max, min, is_some, nat_lt, Option, Some, None, List, [], ◌∷◌, length, slice_get, if◌then◌else◌}
+use Rattle.terms_prelude.specs.Terms.{Size, count_below}
 use Rattle.client.specs.Readings.{DecidesBy, Reads, first_word, size_of}
 use Rattle.client.specs.declared.reading.Reading.{Reading}
 use Rattle.gateway.specs.declared.requests.Refusal.{Refusal}
@@ -61,6 +61,13 @@ within first length question = min (max first question) (first + length)
 -- what was told decides the question: more than t members told this bit; or nothing does
 abbrev pub Decides : Size → List Told → ℕ → Option Bool → Type 0
 Decides size heard question decision = DecidesBy size (words_on question heard) decision
+
+-- the member told a bit of a question; how many members did
+abbrev pub has_word : List (ℕ × Bool) → ℕ → Bool
+has_word words member = is_some (first_word words member)
+
+abbrev pub teller_count : Size → List Told → ℕ → ℕ
+teller_count size heard question = count_below size.n (has_word (words_on question heard))
 
 -- the bit that was told, where the decision is the other one
 abbrev pub contradiction_in : Option Bool → Option Bool → Option Bool

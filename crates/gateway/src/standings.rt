@@ -10,7 +10,7 @@ use std::alloc::{AllocError, Global};
 pub enum Stage {
     /// Nothing is.
     Unproposed,
-    /// A bit was proposed, or a member told a decision.
+    /// A member took a proposal or had one, or more than t members told a decision.
     Proposed,
     /// So many members came to the last round that no decision comes.
     Spent,
@@ -19,7 +19,7 @@ pub enum Stage {
 /// The state of a question.
 #[derive(Clone, Copy, Debug, PartialEq, Eq)]
 pub enum Standing {
-    /// Nothing is known of it.
+    /// Nothing is known of it but what t members at most told.
     Unproposed,
     /// A bit was proposed.
     Proposed,

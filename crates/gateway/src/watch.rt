@@ -5,7 +5,7 @@ ghost use Rattle.std.specs.Prelude.{◌≡◌, ◌<◌, ◌≤◌, ◌+◌, ◌/
 ghost use Rattle.client.specs.Readings.{Reads, first_word, size_of};
 ghost use Rattle.gateway.specs.Heads.{IsCommonHead, count_at, moved_heads, next_first};
 ghost use Rattle.gateway.specs.Scopes.{epoch_start, window_length};
-ghost use Rattle.gateway.specs.Watches.{AreContradictions, Contradicts, ContradictsOn, Decides, IsInWindow, IsKept, Watches, contradiction_in, refusal_at, watch_first, watch_heads, watch_scope, watch_size, within, words_on};
+ghost use Rattle.gateway.specs.Watches.{AreContradictions, Contradicts, ContradictsOn, Decides, IsInWindow, IsKept, Watches, contradiction_in, refusal_at, teller_count, watch_first, watch_heads, watch_scope, watch_size, within, words_on};
 ghost use Rattle.gateway.specs.declared.watch.Told.{Told};
 
 use crate::heads::{common_head, move_head, next_first};
@@ -264,6 +264,25 @@ impl Watch {
             Some(reading) => reading.word_of(member),
             None => None,
         }
+    }
+
+    /// Returns how many members told a bit of the question. Nobody told one of a question before
+    /// the window. If more than t members did, a correct one did.
+    #[tactic(auto, unfolding(crate::specs::Watches::watch_size))]
+    pub fn teller_count(&self, question: u64) -> u8
+        ensures told { (heard : List Told) → Watches self.now heard →
+            watch_first self.now ≤ question →
+            result ≡ teller_count (watch_size self.now) heard question }
+        ensures past { question < watch_first self.now → result ≡ 0 }
+    {
+        self.scope.size.recall();
+        let mut count = 0;
+        for member in 0..self.scope.size.n() {
+            if self.word_of(question, member).is_some() {
+                count += 1;
+            }
+        }
+        count
     }
 
     /// Returns the reading of a question, if it is one of the window.

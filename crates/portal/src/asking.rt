@@ -4,6 +4,7 @@ use crate::book::Motion;
 use crate::deadline::Deadline;
 use crate::following::{FIRST_REST, PROMPT, connect, longer_rest};
 use crate::lines::DeskLines;
+use crate::ranks::Rank;
 use crate::serving::Runner;
 use crate::shared::{Shared, time_now};
 use gateway::{MemberState, Reply, Told, reply_of};
@@ -16,6 +17,14 @@ const PACE: u64 = 2000;
 
 /// The most questions that a member is asked for each time.
 const MOST_STATES: u32 = 16;
+
+/// The way through the questions of a rank, for which a member is asked in turn.
+#[derive(Clone, Copy, Debug, PartialEq, Eq)]
+struct Walk {
+    rank: Rank,
+    /// The question from which it goes on.
+    next: u64,
+}
 
 /// Speaks to the member, over one connection after the other, until the gateway ends.
 pub(crate) fn ask_on<R: Runner>(rt: R, shared: Arc<Shared>, member: u8) {
@@ -41,13 +50,15 @@ pub(crate) fn ask_on<R: Runner>(rt: R, shared: Arc<Shared>, member: u8) {
 /// Speaks to the member over one connection, until it ends.
 fn ask_once<R: Runner>(rt: &R, shared: &Shared, member: u8) -> io::Result<()> {
     let mut lines = connect(rt, shared, member)?;
-    let mut next = 0;
+    let mut first = new_walk(Rank::First);
+    let mut later = new_walk(Rank::Later);
     for _ in 0..u64::MAX {
         if shared.is_over() {
             return Ok(());
         }
         ask(rt, shared, &mut lines, member)?;
-        next = ask_open(rt, shared, &mut lines, member, next)?;
+        let room = ask_some(rt, shared, &mut lines, member, &mut first, MOST_STATES)?;
+        let _room = ask_some(rt, shared, &mut lines, member, &mut later, room)?;
         let pause = Deadline::new(rt, PACE)?;
         propose_all(rt, shared, &mut lines, member, pause)?;
     }
@@ -64,34 +75,34 @@ fn ask<R: Runner>(rt: &R, shared: &Shared, lines: &mut DeskLines, member: u8) ->
     Ok(())
 }
 
-/// Asks the member how it stands with some of the questions that are under way, from this one on,
-/// and no further once a proposal waits. Returns the question after the last of them; 0 after the
-/// last of all.
-fn ask_open<R: Runner>(
+/// Asks the member how it stands with questions of a rank, for as many as there is room, and no
+/// further once a proposal waits. Returns the room that is left after the last of them all.
+fn ask_some<R: Runner>(
     rt: &R,
     shared: &Shared,
     lines: &mut DeskLines,
     member: u8,
-    from: u64,
-) -> io::Result<u64> {
-    let mut next = from;
-    for _ in 0..MOST_STATES {
-        let open = shared.book.lock(rt).open_from(next, member);
+    walk: &mut Walk,
+    room: u32,
+) -> io::Result<u32> {
+    for asked in 0..room {
+        let open = shared.book.lock(rt).open_from(walk.next, member, walk.rank);
         let Some(question) = open else {
-            return Ok(0);
+            walk.next = 0;
+            return Ok(room - asked);
         };
         let reply = reply_on(rt, shared, lines, question)?;
         hear_state(rt, shared, member, question, reply);
-        next = question.saturating_add(1);
+        walk.next = question.saturating_add(1);
         if shared.book.lock(rt).motion_for(member).is_some() {
-            return Ok(next);
+            return Ok(0);
         }
     }
-    Ok(next)
+    Ok(0)
 }
 
-/// Returns what the member replies to one who asks for a question that is under way. A member of a
-/// chain is asked for its decision alone: `STATE` would start the slot's epoch again.
+/// Returns what the member replies to one who asks for a question. A member of a chain is asked for
+/// its decision alone: `STATE` would start the slot's epoch again.
 fn reply_on<R: Runner>(
     rt: &R,
     shared: &Shared,
@@ -185,4 +196,9 @@ fn exchange<R: Runner>(
     lines.send(rt, line, Deadline::new(rt, PROMPT)?)?;
     let reply = lines.next(rt, shared.alloc, Deadline::new(rt, PROMPT)?)?;
     Ok(reply_of(&reply))
+}
+
+/// Returns a way from the first question on.
+fn new_walk(rank: Rank) -> Walk {
+    Walk { rank, next: 0 }
 }

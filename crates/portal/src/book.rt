@@ -1,11 +1,12 @@
 //! The book of a gateway: a cluster as it is known, and its events.
 
-ghost use Rattle.std.specs.Prelude.{◌≡◌, ◌==◌, List, filter, find, not};
+ghost use Rattle.std.specs.Prelude.{◌≡◌, ◌≤◌, ◌==◌, List, filter, find, not};
 ghost use Rattle.gateway.specs.Watches.{Watches};
 ghost use Rattle.gateway.specs.declared.watch.Told.{Told};
 
 use crate::hearing::Hearing;
 use crate::notes::{Note, Notes};
+use crate::ranks::{Rank, rank_of};
 use crate::recent::Recent;
 use gateway::{
     Event, MemberState, MemberView, Position, Refusal, Reply, Scope, Stage, Standing, Tally, Times,
@@ -160,7 +161,7 @@ impl Book {
                     });
                 }
             }
-            (None, None) => self.begin(told.question),
+            (None, None) => self.note_word(told.question),
         }
     }
 
@@ -205,20 +206,21 @@ impl Book {
         }
     }
 
-    /// Returns how many members told a bit of a question.
-    pub(crate) fn teller_count(&self, question: u64) -> u8 {
-        let mut count: u8 = 0;
-        for member in 0..self.scope.size.n() {
-            if self.word_of(question, member).is_some() {
-                count = count.saturating_add(1);
-            }
-        }
-        count
+    /// Notes that a member told a decision of a question that isn't decided.
+    fn note_word(&mut self, question: u64) {
+        self.notes.mark_told(question);
+        let tellers = self.watch().teller_count(question);
+        self.begin_told(question, tellers);
     }
 
-    /// Returns the bit that a member told of a question.
-    pub(crate) fn word_of(&self, question: u64, member: u8) -> Option<bool> {
-        self.hearing.watch().word_of(question, member)
+    /// Notes that a question is under way if more than t members told a decision of it: one of them
+    /// is correct. What t told, liars may have made up.
+    fn begin_told(&mut self, question: u64, tellers: u8)
+        ensures { tellers ≤ self.old.scope.size.t → self.new ≡ self.old }
+    {
+        if tellers > self.scope.size.t() {
+            self.begin(question);
+        }
     }
 
     /// Notes that a member of a chain has come to a slot: the window moves ahead once more than t
@@ -324,12 +326,12 @@ impl Book {
         }
     }
 
-    /// Returns the first question of the window from this one on that is under way, and at whose
-    /// end the member wasn't seen.
-    pub(crate) fn open_from(&self, question: u64, member: u8) -> Option<u64> {
+    /// Returns the first question of the window from this one on that has this rank, and of which
+    /// the member said nothing for good.
+    pub(crate) fn open_from(&self, question: u64, member: u8, rank: Rank) -> Option<u64> {
         let (first, end) = self.window();
         for question in question.max(first)..end {
-            if self.is_open_for(question, member) {
+            if self.is_open_for(question, member, rank) {
                 return Some(question);
             }
         }
@@ -341,10 +343,18 @@ impl Book {
         (self.watch().first(), self.watch().within(u64::MAX))
     }
 
-    /// Returns `true` if the question is under way, and the member wasn't seen at its end.
-    fn is_open_for(&self, question: u64, member: u8) -> bool {
-        let spent = self.notes.at(question).spent;
-        spent >> (member & 63) & 1 == 0 && self.standing(question) == Standing::Proposed
+    /// Returns `true` if the question has this rank, and the member neither told a decision of it
+    /// nor was seen at its end.
+    fn is_open_for(&self, question: u64, member: u8, rank: Rank) -> bool {
+        let note = self.notes.at(question);
+        note.spent >> (member & 63) & 1 == 0
+            && rank_of(self.standing(question), note.is_told) == Some(rank)
+            && self.word_of(question, member).is_none()
+    }
+
+    /// Returns the bit that a member told of a question.
+    pub(crate) fn word_of(&self, question: u64, member: u8) -> Option<bool> {
+        self.hearing.watch().word_of(question, member)
     }
 
     /// Returns the state of a question.
@@ -377,7 +387,7 @@ impl Book {
     /// Notes that no decision of the question is awaited.
     fn end_question(&mut self, question: u64) {
         let note = self.notes.at(question);
-        if note.stage == Stage::Proposed {
+        if note.stage != Stage::Spent {
             self.notes.put(Note {
                 stage: Stage::Spent,
                 ..note

@@ -13,6 +13,7 @@ mod handed;
 mod hearing;
 mod lines;
 mod notes;
+mod ranks;
 mod reach;
 mod recent;
 mod serving;

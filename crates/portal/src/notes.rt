@@ -10,6 +10,8 @@ pub(crate) struct Note {
     pub(crate) stage: Stage,
     /// The milliseconds since 1970 at which it was proposed here.
     pub(crate) begun: Option<u64>,
+    /// Set once a member told a decision of it before it was decided.
+    pub(crate) is_told: bool,
     /// The members that came to the last step of its last round, a bit each.
     pub(crate) spent: u64,
 }
@@ -27,6 +29,15 @@ impl Notes {
         let mut ring = Vec::new(alloc);
         ring.resize(count, new_note(0))?;
         Ok(Notes { ring })
+    }
+
+    /// Marks a question as one of which a member told a decision.
+    pub(crate) fn mark_told(&mut self, question: u64) {
+        let note = self.at(question);
+        self.put(Note {
+            is_told: true,
+            ..note
+        });
     }
 
     /// Returns the note on a question.
@@ -58,6 +69,7 @@ fn new_note(question: u64) -> Note {
         question,
         stage: Stage::Unproposed,
         begun: None,
+        is_told: false,
         spent: 0,
     }
 }

@@ -144,7 +144,7 @@ impl<'a, R: Speaker> Reach<'a, R> {
         Some(Outcome {
             standing: Standing::Decided(bit),
             taken: 0,
-            have: book.teller_count(question),
+            have: book.watch().teller_count(question),
         })
     }
 
