@@ -26,10 +26,10 @@ none_in_replicate zero at = refl
 none_in_replicate (suc n) zero = refl
 none_in_replicate (suc n) (suc at) = none_in_replicate n at
 
-pub empty_is_table : IsTable (replicate 64 None)
+pub empty_is_table : IsTable (replicate 256 None)
 empty_is_table = record {
   count = refl;
-  apart = λ at other kept twin is was same. let no : ⊥ = let e : None ≡ Some kept = sym (none_in_replicate 64 at) ∙ is in cc in absurd no;
+  apart = λ at other kept twin is was same. let no : ⊥ = let e : None ≡ Some kept = sym (none_in_replicate 256 at) ∙ is in cc in absurd no;
 }
 
 -- a place is written, with a refusal that no other place has
@@ -58,7 +58,7 @@ written_apart table at place is within new = record {
         is.apart one other kept twin (other_place one kept e here) (other_place other twin f there) same
 
 -- the same refusal is written there
-again_is_table : (table : Table) (at : ℕ) (was after : KeptRefusal) → IsTable table → at < 64 → KeepsAt table at was → after.refusal ≡ was.refusal
+again_is_table : (table : Table) (at : ℕ) (was after : KeptRefusal) → IsTable table → at < 256 → KeepsAt table at was → after.refusal ≡ was.refusal
     → IsTable (set table at (Some after))
 again_is_table table at was after is within kept same = written_apart table at (Some after) is (omega (arith, within, is.count))
     (λ one twin other this differs there equal.
@@ -84,7 +84,7 @@ left_counts (Some kept) = by_test (kept.held == 0) refl
 
 -- A refusal that is kept comes again.
 module _ (table : Table) (at : ℕ) (was : KeptRefusal) (now : ℕ) (caller : Option Caller) (after : KeptRefusal) (line : Option RefusalCount) (is : IsTable table)
-    (within : at < 64) (kept : KeepsAt table at was)
+    (within : at < 256) (kept : KeepsAt table at was)
     (soon : is_due now was ≡ false → (after ≡ record was { caller = caller; held = was.held + 1 }) × (line ≡ None))
     (due : is_due now was ≡ true → (after ≡ record was { caller = caller; held = 0; told = now })
     × (line ≡ Some (record { refusal = was.refusal; caller = caller; count = was.held + 1 }))) where
@@ -139,7 +139,7 @@ module _ (table : Table) (at : ℕ) (was : KeptRefusal) (now : ℕ) (caller : Op
   }
 
 -- A refusal that isn't kept takes a place.
-module _ (table : Table) (at now : ℕ) (refusal : Refusal) (caller : Option Caller) (is : IsTable table) (within : at < 64) where
+module _ (table : Table) (at now : ℕ) (refusal : Refusal) (caller : Option Caller) (is : IsTable table) (within : at < 256) where
   abbrev taken : KeptRefusal
   taken = record { refusal = refusal; caller = caller; held = 0; told = now }
 
@@ -167,7 +167,7 @@ module _ (table : Table) (at now : ℕ) (refusal : Refusal) (caller : Option Cal
   }
 
 -- What is due is told.
-due_refusal : (table : Table) (at now : ℕ) (place : Option KeptRefusal) → IsTable table → at < 64 → place_at table at ≡ place
+due_refusal : (table : Table) (at now : ℕ) (place : Option KeptRefusal) → IsTable table → at < 256 → place_at table at ≡ place
     → IsTable (set table at (after_due now place))
 due_refusal table at now None is within kept = written_apart table at None is (omega (arith, within, is.count))
     (λ one twin other this. let no : ⊥ = cc in absurd no)
@@ -177,7 +177,7 @@ due_refusal table at now (Some was) is within kept = by_test (is_due now was && 
     by_test true = again_is_table table at was (record was { held = 0; told = now }) is within kept refl
     by_test false = again_is_table table at was was is within kept refl
 
-pub due_is_table : (table : Table) (at now : ℕ) → IsTable table → at < 64 → IsTable (set table at (after_due now (place_at table at)))
+pub due_is_table : (table : Table) (at now : ℕ) → IsTable table → at < 256 → IsTable (set table at (after_due now (place_at table at)))
 due_is_table table at now is within = due_refusal table at now (place_at table at) is within refl
 
 due_counts : (now : ℕ) (place : Option KeptRefusal) → counted (due_of now place) + held_at (after_due now place) ≡ held_at place
@@ -215,7 +215,7 @@ module _ (now : ℕ) (table : Table) where
       by_line None = ap counted_by (append-nil (dues_below now table k)) ∙ omega arith
       by_line (Some line) = sum_by_push (λ (one : RefusalCount). one.count) (dues_below now table k) line
 
-  pub next_below : (k : ℕ) (places next : Table) → k < 64 → DueBelow k places → IsTable next
+  pub next_below : (k : ℕ) (places next : Table) → k < 256 → DueBelow k places → IsTable next
       → next ≡ set places k (after_due now (place_at places k)) → DueBelow (k + 1) next
   next_below k places next within was is same = record { is = is; below = below; others = others; counts = counts }
     where
@@ -264,5 +264,5 @@ module _ (now : ℕ) (table : Table) where
       (subst (λ (l : Option RefusalCount). HaveCome between (events_of (option_to_list l)) after) same comes)))
 
   -- at the last place that is all
-  pub at_last : (k : ℕ) → IsTable table → k ≤ 64 → 64 ≤ k → k ≡ length table
+  pub at_last : (k : ℕ) → IsTable table → k ≤ 256 → 256 ≤ k → k ≡ length table
   at_last k is within past = omega (arith, within, past, is.count)

@@ -14,7 +14,7 @@ abbrev pub Table : Type 0
 Table = List (Option KeptRefusal)
 
 abbrev pub empty : Table
-empty = replicate 64 None
+empty = replicate 256 None
 
 -- what is kept at a place
 abbrev pub place_at : Table → ℕ → Option KeptRefusal
@@ -32,9 +32,9 @@ abbrev pub AreApart : Table → Type 0
 AreApart table = (at other : ℕ) (kept twin : KeptRefusal) → KeepsAt table at kept → KeepsAt table other twin
     → kept.refusal ≡ twin.refusal → at ≡ other
 
--- there are 64 places, and no two have the same refusal
+-- there are 256 places, and no two have the same refusal
 pub record IsTable (table : Table) : Type 0 where
-  pub count : length table ≡ 64
+  pub count : length table ≡ 256
   pub apart : AreApart table
 
 -- a minute has passed since its last line, or as many are held back as can be counted
@@ -52,7 +52,7 @@ is_older one other = nat_lt (since one) (since other)
 
 -- no last line is older than that at this place
 abbrev pub IsOldest : Table → ℕ → Type 0
-IsOldest table at = IsFirstBest is_older table 64 at
+IsOldest table at = IsFirstBest is_older table 256 at
 
 -- how often it came since its last line
 abbrev pub held_at : Option KeptRefusal → ℕ

@@ -17,8 +17,9 @@ use links::LinkEnd;
 use std::marker::Model;
 use std::net::IpAddr;
 
-/// The most refusals that are told apart.
-const PLACES: usize = 64;
+/// The most refusals that are told apart: four of each of 63 others, such as that they can't be
+/// reached, and four more.
+const PLACES: usize = 256;
 
 /// A refusal that may come again.
 #[derive(Clone, Copy, Debug, PartialEq, Eq)]
@@ -112,7 +113,7 @@ impl KeptRefusal {
     }
 }
 
-/// The refusals that were told last, at most 64. Contracts see its places.
+/// The refusals that were told last, at most 256. Contracts see its places.
 #[derive(Drop)]
 pub struct Refusals {
     places: [Option<KeptRefusal>; PLACES],
@@ -162,7 +163,7 @@ impl Refusals {
     /// is a minute old, how often it came since.
     pub fn tell_due(&mut self, now: u64, queue: &mut Queue)
         ensures events { HaveCome queue.old (events_of (dues now self.old)) queue.new }
-        ensures after { (at : ℕ) → at < 64 →
+        ensures after { (at : ℕ) → at < 256 →
             place_at self.new at ≡ after_due now (place_at self.old at) }
         // No count is lost.
         ensures counts { held self.new + counted_by (dues now self.old) ≡ held self.old }
@@ -175,7 +176,7 @@ impl Refusals {
 fn find(places: &[Option<KeptRefusal>; PLACES], refusal: Refusal) -> Option<(usize, KeptRefusal)>
     ensures some { IfSome result
         (λ found. KeepsAt places.now found.0 found.1 × (found.1.refusal ≡ refusal)) }
-    ensures within { IfSome result (λ found. found.0 < 64) }
+    ensures within { IfSome result (λ found. found.0 < 256) }
     ensures none { IfNone result (Lacks places.now refusal) }
 {
     for (at, kept) in places.iter().enumerate() {
@@ -318,7 +319,7 @@ fn count_again(
 ) -> Option<RefusalCount>
     requires table { IsTable places.old }
     requires kept { KeepsAt places.old at kept.now }
-    requires within { at < 64 }
+    requires within { at < 256 }
     ensures table { IsTable places.new }
     ensures noted { IsNoted now kept.now.refusal caller places.old places.new None result }
 {
@@ -385,7 +386,7 @@ fn tell_all_due(places: &mut [Option<KeptRefusal>; PLACES], now: u64, queue: &mu
     requires { IsTable places.old }
     ensures table { IsTable places.new }
     ensures events { HaveCome queue.old (events_of (dues now places.old)) queue.new }
-    ensures after { (at : ℕ) → at < 64 →
+    ensures after { (at : ℕ) → at < 256 →
         place_at places.new at ≡ after_due now (place_at places.old at) }
     ensures counts { held places.new + counted_by (dues now places.old) ≡ held places.old }
 {
@@ -398,7 +399,7 @@ fn tell_all_due(places: &mut [Option<KeptRefusal>; PLACES], now: u64, queue: &mu
 /// Returns what is due at that second of the refusal at a place.
 fn due_at(places: &mut [Option<KeptRefusal>; PLACES], at: usize, now: u64) -> Option<RefusalCount>
     requires table { IsTable places.old }
-    requires within { at < 64 }
+    requires within { at < 256 }
     ensures table { IsTable places.new }
     ensures due { result ≡ due_of now (place_at places.old at) }
     ensures after { places.new ≡ slice_set places.old at (after_due now (place_at places.old at)) }

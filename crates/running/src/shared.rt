@@ -247,7 +247,7 @@ impl<D: Disk, J: Life> Shared<D, J> {
             if book.is_some() {
                 return book;
             }
-            thread::sleep(rt, Duration::from_millis(BOOK_PAUSE));
+            thread::sleep(rt, Duration::from_micros(BOOK_PAUSE));
         }
         None
     }

@@ -8,10 +8,11 @@ pub(crate) const CLOCK_PAUSE: u64 = 100;
 
 /// The most times that the clock tries to read the book, so that it waits for it at most a tenth of
 /// a second.
-pub(crate) const BOOK_TRIES: u32 = 20;
+pub(crate) const BOOK_TRIES: u32 = 1000;
 
-/// The milliseconds between two of the [`BOOK_TRIES`].
-pub(crate) const BOOK_PAUSE: u64 = 5;
+/// The microseconds between two of the [`BOOK_TRIES`], to which the system adds some 50: the book
+/// of a member that a client keeps busy is free for no longer than that between two groups.
+pub(crate) const BOOK_PAUSE: u64 = 20;
 
 /// The milliseconds after which the thread of the log looks again for what is to be told.
 pub(crate) const LOG_PAUSE: u64 = 100;
