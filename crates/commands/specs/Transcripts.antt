@@ -8,10 +8,15 @@ use Rattle.transcripts.specs.Lines.{head_line}
 abbrev pub lines_text : List (List ℕ) → List ℕ
 lines_text lines = flat_map line lines
 
--- so many lines
+-- only characters that a terminal shows as they are
+abbrev pub AreShown : List ℕ → Type 0
+AreShown line = All (λ (byte : ℕ). (31 < byte) × (byte < 127)) line
+
+-- so many lines, of such characters
 pub record AreLines (count : ℕ) (lines : List (List ℕ)) : Type 0 where
   pub counted : length lines ≡ count
   pub no_ends : All NoEnd lines
+  pub shown : All AreShown lines
 
 -- the line is the first one of a transcript of so many more
 abbrev pub Counts : List ℕ → ℕ → Type 0
@@ -32,4 +37,5 @@ pub record IsTranscriptReply (reply : List ℕ) (status : ℕ) : Type 0 where
   pub whole : reply ≡ line first ++ lines_text others
   pub first_ends : NoEnd first
   pub others_end : All NoEnd others
+  pub others_shown : All AreShown others
   pub counted : HasLines first (length others) status

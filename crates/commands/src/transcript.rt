@@ -1,9 +1,9 @@
 //! The command `transcript`: a line to the desk of a member that runs, and a reply of many lines.
 
-ghost use Rattle.std.specs.Prelude.{ℕ, List, ◌≡◌, ◌++◌, Err, IfOk, string_bytes};
+ghost use Rattle.std.specs.Prelude.{ℕ, List, ◌≡◌, ◌↔◌, ◌<◌, ◌++◌, Err, IfOk, IsTrue, string_bytes};
 ghost use Rattle.std.specs.Io.KnownBytes.{Appends, Consumes};
 ghost use Rattle.commands.specs.Talks.{transcript_line};
-ghost use Rattle.commands.specs.Transcripts.{AreLines, IsTranscriptReply, lines_text};
+ghost use Rattle.commands.specs.Transcripts.{AreLines, AreShown, IsTranscriptReply, lines_text};
 ghost use Rattle.commands.specs.declared.fault.TalkFault.TheVariants.{NoAnswer};
 
 use crate::client::{print_reply, reply_of, send};
@@ -65,7 +65,8 @@ fn whole_reply<R: Read>(alloc: Global, from: &mut R) -> Result<(Vec<u8>, u8), Ta
     }
 }
 
-/// Reads so many lines, each of at most 64 bytes, and puts them behind the text.
+/// Reads so many lines, each of at most 64 bytes, and puts them behind the text. Each has only
+/// characters that a terminal shows as they are, since the author of a transcript may be a liar.
 fn read_lines<R: Read>(
     alloc: Global,
     count: u64,
@@ -79,9 +80,27 @@ fn read_lines<R: Read>(
     let mut left = count;
     while left > 0 {
         let line = reply_of(alloc, from)?;
-        text.extend_from_slice(&line)?;
+        let bytes = line.as_slice();
+        if !are_shown(bytes) {
+            return Err(TalkFault::NoAnswer);
+        }
+        text.extend_from_slice(bytes)?;
         text.push(b'\n')?;
         left -= 1;
     }
     Ok(())
+}
+
+/// Returns `true` if the line has only characters that a terminal shows as they are.
+fn are_shown(line: &[u8]) -> bool
+    ensures { IsTrue result ↔ AreShown line.now }
+{
+    line.iter().all(|byte| is_shown(*byte))
+}
+
+/// Returns `true` if a terminal shows the character as it is: a printable one of ASCII.
+fn is_shown(byte: u8) -> bool
+    ensures { IsTrue result ↔ (31 < byte) × (byte < 127) }
+{
+    byte > 31 && byte < 127
 }

@@ -15,5 +15,5 @@ mod text;
 pub use audit::audit_text;
 pub use fault::AuditFault;
 pub use lines::{Block, put, put_head, put_pair};
-pub use reading::count_in;
+pub use reading::{count_in, question_in};
 pub use text::TranscriptText;

@@ -61,6 +61,19 @@ pub fn count_in(line: &[u8]) -> Option<u64>
     }
 }
 
+/// Returns the question that a first line names, of whatever cluster; none where the line is none.
+pub fn question_in(line: &[u8]) -> Option<u16>
+    ensures some { IfSome result
+        (λ question. (bit : Bool) × (count : ℕ) × (line.now ≡ head_line question bit count)) }
+    ensures exact { (question : ℕ) (bit : Bool) (count : ℕ) → question < 2 ^ 16 → count < 2 ^ 64 →
+        line.now ≡ head_line question bit count → result ≡ Some question }
+{
+    match head_of(line) {
+        Some(head) if is_spelled(line, head) => Some(head.question),
+        _ => None,
+    }
+}
+
 /// Returns what a first line says, for a cluster of that size; none where it is no such line.
 pub(crate) fn head_from(size: Size, line: &[u8]) -> Option<Head>
     ensures some { IfSome result

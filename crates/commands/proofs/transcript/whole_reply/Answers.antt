@@ -17,6 +17,7 @@ returns-in-None g c =
         whole = c.in_ok-push.ensures.items ∙ sym (append-nil (first ++ 10 ∷ []));
         first_ends = c.in_ok-reply.ensures.0;
         others_end = λ k d l. absurd (omega (arith, l));
+        others_shown = λ k d l. absurd (omega (arith, l));
         counted = inr (none, refl, refl);
       },
       subst (λ (l : List ℕ). Consumes (g.R.Read.remaining c.args.from.now) (g.R.Read.remaining c.reply_of.new.connection) l) (sym c.in_ok-push.ensures.items) c.in_ok-reply.ensures.1,
