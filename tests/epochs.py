@@ -103,6 +103,10 @@ class Chain:
     def journals(self, me):
         return f"{self.folder}/{me}.epochs"
 
+    def epochs(self, me):
+        """The epochs of which the member has a journal."""
+        return sorted(int(name.removesuffix(".journal")) for name in os.listdir(self.journals(me)) if name.endswith(".journal"))
+
     def client(self):
         """The path of the client's settings."""
         path = f"{self.folder}/client.toml"
@@ -234,8 +238,7 @@ def slots_over_many_epochs():
         # A link that an epoch refuses before it runs is of version 2 all the same.
         old = [line for me in range(4) for line in it.log(me).splitlines() if "version 1" in line]
         expect(old == [], f"{len(old)} links of version 1: {old[:2]}")
-        names = sorted(os.listdir(it.journals(0)), key=lambda name: int(name.split(".")[0]))
-        expect(names[:11] == [f"{epoch}.journal" for epoch in range(11)], f"{names}")
+        expect(it.epochs(0)[:11] == list(range(11)), f"{it.epochs(0)}")
 
 
 def dumps_name_their_clusters():
@@ -792,15 +795,82 @@ def new_cluster():
         expect("chain = true\n" in file.read(), "client.toml isn't one of a chain")
 
 
+def ends_so(it, command, status, *parts):
+    """Expects that a command with the settings of member 0 ends with this status, and says all of these words."""
+    done = subprocess.run([PROGRAM, *command.split(), it.settings(0)], capture_output=True, check=False, timeout=10)
+    said = done.stdout + done.stderr
+    expect(done.returncode == status and all(part.encode() in said for part in parts), f"{command}: {done.returncode} {said}")
+
+
+def a_newest_journal_that_is_lost():
+    """The newest journal that a chain's folder has had isn't made anew: `run` and `check` name it, and `init` begins no chain there."""
+    with chain(27460, starts=1, n=1, t=0) as it:
+        folder = it.journals(0)
+
+        def noted():
+            with open(f"{folder}/newest", "rb") as file:
+                return file.read()
+
+        def is_refused(*words):
+            for command in ("check", "run --stay"):
+                ends_so(it, command, 1, "bracha: file\n", *words)
+
+        def move(epochs, ending, other):
+            for epoch in epochs:
+                os.rename(f"{folder}/{epoch}{ending}", f"{folder}/{epoch}{other}")
+
+        decide([it.desk(0)], [1] * 20, range(20))
+        await_journal(f"{folder}/2.journal")
+        expect(noted() == b"2\n", f"noted: {noted()}")
+        it.kill(0)
+        lost = f"{folder}/2.journal: open: no such file: put this journal back"
+        move([2], ".journal", ".aside")
+        is_refused(lost)
+        move([0, 1], ".journal", ".aside")
+        is_refused(lost)
+        ends_so(it, "init", 1, "bracha: journal NotEmpty\n", f"{folder}: the member has run on journals of this folder, which are gone")
+        expect(not os.path.exists(f"{folder}/0.journal"), "init made a journal")
+        move([0, 1, 2], ".aside", ".journal")
+        it.start(0)
+        decide([it.desk(0)], [0] * 36, range(32, 36))
+        await_journal(f"{folder}/3.journal")
+        # The supervisor of a member whose newest journal goes while it runs starts it in vain.
+        move([3], ".journal", ".aside")
+        expect(it.runs[0].wait(10) == 1, f"it ends with {it.runs[0].returncode}")
+        is_refused(f"{folder}/3.journal")
+        move([3], ".aside", ".journal")
+        for text in (b"", b"3", b"-3\n", b"3\n\n", b"\xff\n", b"18446744073709551616\n"):
+            with open(f"{folder}/newest", "wb") as file:
+                file.write(text)
+            is_refused(f"{folder}/newest: no number of an epoch")
+        # Nothing is noted in a folder of an earlier version. What can't be noted isn't run on.
+        os.remove(f"{folder}/newest")
+        ends_so(it, "check", 0, "\nrecords 0\n")
+        os.mkdir(f"{folder}/newest.new")
+        ends_so(it, "run --stay", 1, "bracha: file\n", f"{folder}/newest: write: Is a directory")
+        os.rmdir(f"{folder}/newest.new")
+        with open(f"{folder}/newest.new", "wb") as file:
+            file.write(b"a run ended while it wrote this")
+        it.start(0)
+        expect(noted() == b"3\n", f"noted at the start: {noted()}")
+
+
+def await_journal(path):
+    """Waits until this journal is there, and noted."""
+    end = time.monotonic() + 10
+    while not os.path.exists(path) or os.path.exists(f"{os.path.dirname(path)}/newest.new"):
+        expect(time.monotonic() < end, f"{path} isn't made")
+        time.sleep(0.05)
+    time.sleep(0.2)
+
+
 def all_journals_are_looked_at():
     """`check` reads all journals of a chain, as `run` does, and `init` begins no chain beside later journals or one that was put aside."""
     it = Chain(27340)
     folder = it.journals(0)
 
     def ends(command, status, *parts):
-        done = subprocess.run([PROGRAM, *command.split(), it.settings(0)], capture_output=True, check=False, timeout=10)
-        said = done.stdout + done.stderr
-        expect(done.returncode == status and all(part.encode() in said for part in parts), f"{command}: {done.returncode} {said}")
+        ends_so(it, command, status, *parts)
 
     def write(epoch, records=b"", cluster=None):
         number = CLUSTER + (epoch if cluster is None else cluster)
@@ -920,7 +990,7 @@ def liar_and_kills(slots=400, kills=6, port=27700, questions=16, width=16):
                 expect(replies == [f"DECIDED {bits[slot]}" for slot in part], f"ASK at {desk.port}: {replies}")
         newest = slots // it.questions
         for me in range(3):
-            expect(len(os.listdir(it.journals(me))) <= newest + 2, f"{len(os.listdir(it.journals(me)))} journals")
+            expect(len(it.epochs(me)) <= newest + 2, f"{len(it.epochs(me))} journals")
 
 
 def thousand_epochs():
@@ -958,7 +1028,7 @@ def play(check):
 
 def main():
     checks = [slots_over_many_epochs, dumps_name_their_clusters, restarts, comeback, followers, quiet, ends, put_away,
-              put_away_while_it_runs, a_journal_that_is_gone, epochs_of_made_up_desks, closed_epochs, new_cluster, all_journals_are_looked_at, few_files_are_told, liar_and_kills]
+              put_away_while_it_runs, a_journal_that_is_gone, epochs_of_made_up_desks, closed_epochs, new_cluster, all_journals_are_looked_at, a_newest_journal_that_is_lost, few_files_are_told, liar_and_kills]
     # These wait for epochs to end, beside the others.
     waiting = [asks_for_closed_epochs, half_decided_epochs_end, late_decisions_are_told_once, epochs_that_run_on_are_told, a_burst_over_an_end_is_told,
                an_await_ends_with_its_epoch, a_client_outlasts_its_epoch, who_waits_for_a_place_outlasts_the_epoch, who_waits_for_too_long_is_closed,

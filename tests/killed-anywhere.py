@@ -279,6 +279,15 @@ class ChainRun:
                     self.decided[slot] = int(said[8:])
 
 
+def noted(folder):
+    """The newest epoch of which the folder has had a journal, as is noted, or -1."""
+    try:
+        with open(f"{folder}/epochs/newest", encoding="ascii") as file:
+            return int(file.read())
+    except FileNotFoundError:
+        return -1
+
+
 def chain_killed(tools, at, folder, ports):
     """Whether `run` of a chain came to its end, killed at a call of its."""
     program, desk = tools[1], ports + 10
@@ -290,11 +299,12 @@ def chain_killed(tools, at, folder, ports):
     first = ChainRun(words, folder, desk, environment)
     status = first.go()
     check(status in (0, KILLED), f"status {status}")
-    names = [name for name in os.listdir(f"{folder}/epochs") if not name.endswith(".new")]
+    names = [name for name in os.listdir(f"{folder}/epochs") if name.endswith(".journal")]
     check(sorted(names) == [f"{epoch}.journal" for epoch in range(len(names))], f"journals {sorted(names)}")
-    told = {}
+    told, newest = {}, noted(folder)
     for epoch in range(len(names)):
         said, decided = dumped(program, f"{folder}/epochs/{epoch}.journal")
+        check(not said or epoch <= newest, f"something is said in epoch {epoch}, and {newest} is noted")
         told.update({2 * epoch + question: bit for question, bit in decided.items()})
         proposed = {2 * epoch + it[5] for it in said if it[3] == 1 and it[7:9] == b"\1\1"}
         check({slot for slot in first.taken if slot // 2 == epoch} <= proposed, f"a proposal in epoch {epoch} is gone")
@@ -304,6 +314,7 @@ def chain_killed(tools, at, folder, ports):
     check(second.go() == 0, "it doesn't end well")
     check(second.decided == SLOTS, f"decided {second.decided}")
     check(not [name for name in os.listdir(f"{folder}/epochs") if name.endswith(".new")], "a journal is left half made")
+    check(noted(folder) == len(os.listdir(f"{folder}/epochs")) - 2, f"{noted(folder)} is noted")
     return status == 0
 
 

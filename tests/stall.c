@@ -1,5 +1,5 @@
-/* A library to be loaded before a program: its STALL_ATth fsync or fdatasync, counted from 1, takes STALL_SECONDS longer. With STALL_FILE
-   only those of files are counted whose path ends so. */
+/* A library to be loaded before a program: its STALL_ATth fsync or fdatasync, counted from 1, takes STALL_SECONDS longer, and each takes
+   STALL_EACH microseconds longer. With STALL_FILE only those of files are counted whose path ends so. */
 #define _GNU_SOURCE
 #include <dlfcn.h>
 #include <stdatomic.h>
@@ -25,7 +25,9 @@ static int is_counted(int file)
 
 static void stall(int file)
 {
-    const char *at = getenv("STALL_AT"), *seconds = getenv("STALL_SECONDS");
+    const char *at = getenv("STALL_AT"), *seconds = getenv("STALL_SECONDS"), *each = getenv("STALL_EACH");
+    if (each && is_counted(file))
+        usleep(atol(each));
     if (at && seconds && is_counted(file) && atomic_fetch_add(&calls, 1) + 1 == atol(at))
         sleep(atol(seconds));
 }

@@ -64,8 +64,20 @@ const NEXT: &str =
     "Each member wants its own file alone, which has its seed. For each, where its file is:
   bracha init member-0.toml
   bracha run member-0.toml
-Once they run, where client.toml is, and where DESK is one of the addresses in it:
+";
+
+/// The text behind it if one host reaches all desks.
+const TOGETHER: &str =
+    "Once they run, where client.toml is, and where DESK is one of the addresses in it:
   bracha propose --all client.toml 0 1
+  bracha ask --wait DESK 0
+";
+
+/// The text behind it if each desk is at 127.0.0.1 of another host.
+const APART: &str =
+    "Each desk is at 127.0.0.1 of its member's own host, so no host reaches all that client.toml
+names: see --desk. Once they run, on each host, where DESK is the desk of its settings:
+  bracha propose DESK 0 1
   bracha ask --wait DESK 0
 ";
 
@@ -386,8 +398,22 @@ fn print_next(rt: &HostRuntime, wanted: &NewCluster<'_>, places: &Places) -> Res
     let line = format!(in alloc; "{path}: the members' desks, for `propose --all`\n")?;
     output.write_all(line.as_bytes())?;
     output.write_all(NEXT.as_bytes())?;
+    let asks = if wanted.desk.is_none() && are_hosts_apart(&places.links) {
+        APART
+    } else {
+        TOGETHER
+    };
+    output.write_all(asks.as_bytes())?;
     output.flush()?;
     Ok(())
+}
+
+/// Returns `true` if these addresses are of more than one host.
+fn are_hosts_apart(links: &[Address]) -> bool {
+    match links.first() {
+        Some(first) => links.iter().any(|link| link.octets != first.octets),
+        None => false,
+    }
 }
 
 /// The addresses at which the members of a new cluster listen, in the order of the members.

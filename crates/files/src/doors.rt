@@ -82,13 +82,16 @@ pub fn keep_to_own_doors(rt: &HostRuntime, settings: &Settings) -> Result<(), Fa
 /// The most bytes of the path of a socket.
 const LONGEST_PATH: usize = 107;
 
-/// Refuses a path at which no socket can be made: it is too long, its folder can't be looked into
-/// or is none, or another file is there.
+/// Refuses a path at which no socket can be made: it is too long or has a byte 00, its folder can't
+/// be looked into or is none, or another file is there.
 ///
 /// [`Fault::Run`] with [`RunFault::Listen`]: none can.
 fn keep_to_socket(rt: &HostRuntime, path: &str) -> Result<(), Failure> {
     if path.len() > LONGEST_PATH {
         return Err(no_socket(rt, path, &"the path of a socket has at most 107 bytes"));
+    }
+    if path.as_bytes().contains(&0) {
+        return Err(no_socket(rt, path, &"the path of a socket has no byte 00"));
     }
     match is_folder(rt, path) {
         Ok(true) => {}

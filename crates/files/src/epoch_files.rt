@@ -3,13 +3,14 @@
 ghost use Rattle.commands.specs.declared.fault.InitFault.TheVariants.{NotEmpty};
 ghost use Rattle.machine.specs.declared.fault.RunFault.TheVariants.{Forgotten};
 ghost use Rattle.std.specs.Fmt.{decimal};
-ghost use Rattle.std.specs.Prelude.{◌≡◌, ◌+◌, ◌^◌, ◌≤◌, ◌++◌, IfErr, IfOk, codes, string_bytes};
+ghost use Rattle.std.specs.Prelude.{ℕ, ◌≡◌, ◌↔◌, ◌+◌, ◌<◌, ◌^◌, ◌≤◌, ◌++◌, Some, IfErr, IfOk, IfSome, codes, string_bytes};
 ghost use Rattle.terms_prelude.specs.Terms.{new_header};
 ghost use Rattle.troubles.specs.Faults.{IsMeant};
 ghost use Rattle.troubles.specs.declared.fault.Fault.TheVariants as ends;
 
 use crate::files::{Purpose, Source, failure_for, keep_to_files, open_good_disk};
 use crate::forgotten::refuse_forgotten;
+use crate::newest::{is_noted, newest_noted};
 use crate::unsynced::refuse_unsynced;
 use chain::Chain;
 use commands::InitFault;
@@ -57,13 +58,36 @@ const MISSING: &str =
 
 /// Returns the epochs whose journals are in the folder: those before the first were put away.
 ///
-/// [`Fault::File`]: the folder can't be read, or has none.
-pub fn epochs_in(host: &HostRuntime, folder: &str) -> Result<Span, Failure> {
-    match span_in(host, folder) {
-        Ok(Some(span)) => Ok(span),
-        Ok(None) => Err(nothing_in(host, folder)),
-        Err(error) if error.kind() == io::ErrorKind::NotFound => Err(nothing_in(host, folder)),
-        Err(error) => Err(failed(host, folder, &error)),
+/// [`Fault::File`]: the folder can't be read, or has none, or lacks the newest that it has had.
+pub fn epochs_in(host: &HostRuntime, folder: &str) -> Result<Span, Failure>
+    ensures { IfErr result (λ failure. IsMeant ends.File failure.fault) }
+{
+    let found = match span_in(host, folder) {
+        Ok(found) => found,
+        Err(error) if error.kind() == io::ErrorKind::NotFound => None,
+        Err(error) => return Err(failed(host, folder, &error)),
+    };
+    if let Some(epoch) = lost_of(found, newest_noted(host, folder)?) {
+        let path = epoch_path(host.alloc(), folder, epoch).map_err(|_| Fault::Memory)?;
+        return Err(lost(host, path.as_str()));
+    }
+    match found {
+        Some(span) => Ok(span),
+        None => Err(nothing_in(host, folder)),
+    }
+}
+
+/// Returns the epoch whose journal is lost, if one is: the newest of which the folder has had a
+/// journal, as is noted, where it has those of earlier epochs alone.
+fn lost_of(found: Option<Span>, newest: Option<u64>) -> Option<u64>
+    ensures some { IfSome result (λ epoch. newest ≡ Some epoch) }
+    ensures lost { (epoch : ℕ) → newest ≡ Some epoch →
+        result ≡ Some epoch ↔ IfSome found (λ span. span.last < epoch) }
+{
+    let newest = newest?;
+    match found {
+        Some(span) if span.last >= newest => None,
+        _ => Some(newest),
     }
 }
 
@@ -120,22 +144,33 @@ pub fn refuse_forgotten_in(host: &HostRuntime, folder: &str, member: u8) -> Resu
     refuse_forgotten(host, path.as_str(), member)
 }
 
-/// Refuses to begin a chain in a folder that has journals of later epochs: its member runs on them.
+/// Refuses to begin a chain in a folder on whose journals its member has run.
 ///
-/// [`Fault::Init`] with [`InitFault::NotEmpty`]: it has.
-pub(crate) fn refuse_later_epochs(host: &HostRuntime, folder: &str) -> Result<(), Failure>
+/// [`Fault::Init`] with [`InitFault::NotEmpty`]: it has journals of later epochs, or had some.
+pub(crate) fn refuse_begun(host: &HostRuntime, folder: &str) -> Result<(), Failure>
     ensures { IfErr result (λ failure. IsMeant (ends.Init NotEmpty) failure.fault) }
 {
-    let last = match span_in(host, folder) {
-        Ok(Some(Span { last, .. })) if last > 0 => last,
-        // One that can't be looked into is refused when the first journal is made.
-        _ => return Ok(()),
+    let Some(words) = traces_in(host, folder).map_err(|_| Fault::Memory)? else {
+        return Ok(());
     };
     let fault = Fault::Init(InitFault::NotEmpty);
-    let words = format!(in host.alloc();
-        "journals up to that of epoch {last} are here: the member has run on them"
-    ).map_err(|_| Fault::Memory)?;
     Err(Failure::at(host.alloc(), fault, folder, Whereabouts::Whole, &words))
+}
+
+/// The words on a folder whose journals are gone.
+const GONE: &str = "the member has run on journals of this folder, which are gone: put them back";
+
+/// Returns what tells that a member has run on the journals of a folder, if anything does.
+fn traces_in(host: &HostRuntime, folder: &str) -> Result<Option<String>, AllocError> {
+    let alloc = host.alloc();
+    match span_in(host, folder) {
+        Ok(Some(Span { last, .. })) if last > 0 => Ok(Some(format!(in alloc;
+            "journals up to that of epoch {last} are here: the member has run on them"
+        )?)),
+        Ok(None) if is_noted(host, folder)? => Ok(Some(String::from_str(alloc, GONE)?)),
+        // One that can't be looked into is refused when the first journal is made.
+        _ => Ok(None),
+    }
 }
 
 /// Returns the epochs whose journals are in the folder.
@@ -156,7 +191,7 @@ fn span_of(host: &HostRuntime, folder: &str, ending: &str) -> io::Result<Option<
 }
 
 /// Returns the epoch whose file with this ending has this name, if one's has.
-fn epoch_named(name: &str, ending: &str) -> Option<u64> {
+pub(crate) fn epoch_named(name: &str, ending: &str) -> Option<u64> {
     number(name.strip_suffix(ending)?.as_bytes())
 }
 
@@ -335,7 +370,9 @@ pub fn look_into(host: &HostRuntime, path: &str, header: &Header) -> Result<Verd
 }
 
 /// Returns the failure of a journal that is missing while those around it are there.
-fn lost(host: &HostRuntime, path: &str) -> Failure {
+fn lost(host: &HostRuntime, path: &str) -> Failure
+    ensures { result.fault ≡ ends.File }
+{
     Failure::at(host.alloc(), Fault::File, path, Whereabouts::Open, &LOST)
 }
 

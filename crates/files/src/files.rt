@@ -13,7 +13,7 @@ ghost use Rattle.std.specs.Prelude.{◌≡◌, ◌≢◌, IfErr, IfOk, IfSome, c
 use crate::cluster::make_folder;
 use crate::doors::keep_to_own_doors;
 use crate::epoch_files::{
-    Checked, checked_journal, first_journal, refuse_forgotten_in, refuse_later_epochs,
+    Checked, checked_journal, first_journal, refuse_begun, refuse_forgotten_in,
 };
 use crate::forgotten::refuse_forgotten;
 use crate::page_files::{
@@ -231,7 +231,7 @@ pub fn init_file<P: Premise>(rt: &HostRuntime, path: &str) -> Result<u8, Failure
     if let Some(folder) = &settings.epochs {
         make_folder(rt, folder.as_str())?;
         refuse_forgotten_in(rt, folder.as_str(), settings.header.me())?;
-        refuse_later_epochs(rt, folder.as_str())?;
+        refuse_begun(rt, folder.as_str())?;
     }
     let journal = first_journal(rt.alloc(), &settings).map_err(|_| Fault::Memory)?;
     let journal = journal.as_str();

@@ -8,6 +8,7 @@ mod doors;
 mod epoch_files;
 mod files;
 mod forgotten;
+mod newest;
 mod page_files;
 mod rows;
 mod shapes;
@@ -28,6 +29,7 @@ pub use files::{
     init_file, migrate_file, open_good_disk, read_settings, simulate_file,
 };
 pub use forgotten::{put_aside, refuse_forgotten};
+pub use newest::note_newest;
 pub use page_files::{Page, write_page};
 pub use shapes::{AuditWords, Audited, SimulateWords, audited_of, simulate};
 pub use unsynced::remove_old_mark;
