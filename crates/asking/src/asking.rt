@@ -7,12 +7,13 @@ ghost use Rattle.std.specs.Prelude.{◌≡◌, IfErr};
 
 use crate::desks::{Deadline, DeskPlace, DeskSocket, REST, Talk, connect, desk_place};
 use commands::{
-    TalkFault, ask_line, await_line, exchange, fetch_transcript, is_undecided, links_line,
+    TalkFault, ask_line, await_line, exchange, fetch_transcript, is_undecided, line_at, links_line,
     propose_line, ready_status, state_line, status_line, tell, tell_object, transcript_line,
 };
-use std::io::{self, BufReader};
+use std::io::{self, BufReader, Write};
 use std::thread;
 use std::time::Duration;
+use transcripts::question_in;
 use troubles::{Failure, Fault, Whereabouts};
 
 /// The form of an address.
@@ -37,6 +38,9 @@ fn place_at<'a>(rt: &HostRuntime, text: &'a str) -> Result<DeskPlace<'a>, Failur
 
 /// Asks the member whose desk is at the address for what it heard of a question, and prints its
 /// reply. The status is 0 for a transcript, and 1 for any other reply.
+///
+/// [`Fault::Talk`] with [`TalkFault::NoAnswer`]: no reply came, or a transcript of a later
+/// question.
 pub fn transcript_at(
     rt: &HostRuntime,
     address: &str,
@@ -51,16 +55,47 @@ pub fn transcript_at(
     let mut to = Talk::new(rt, socket, deadline);
     let talk = Talk::new(rt, socket, deadline);
     let mut from = BufReader::new(rt.alloc(), talk).map_err(|_| Fault::Memory)?;
-    match fetch_transcript(
-        rt.alloc(),
-        line.as_str(),
-        &mut to,
-        &mut from,
-        &mut io::writer(rt),
-    ) {
-        Ok(status) => Ok(status),
+    let mut reply = Vec::new(rt.alloc());
+    match fetch_transcript(rt.alloc(), line.as_str(), &mut to, &mut from, &mut reply) {
+        Ok(status) => {
+            print_transcript(rt, address, question, &reply)?;
+            Ok(status)
+        }
         Err(fault) => Err(talk_failure(rt, address, fault)),
     }
+}
+
+/// Prints what a member sent for a transcript of the question. One that names an earlier question
+/// may be of a slot of a chain, so it is printed, and standard error says so. One that names a
+/// later question is no answer.
+fn print_transcript(
+    rt: &HostRuntime,
+    address: &str,
+    question: u16,
+    reply: &[u8],
+) -> Result<(), Failure>
+    ensures named { IfErr result (IsNamed address.now) }
+{
+    let named = match line_at(reply, 1) {
+        Some(head) => question_in(head),
+        None => None,
+    };
+    if named > Some(question) {
+        return Err(talk_failure(rt, address, TalkFault::NoAnswer));
+    }
+    let mut output = io::writer(rt);
+    if output.write_all(reply).is_err() || output.flush().is_err() {
+        return Err(talk_failure(rt, address, TalkFault::Stream));
+    }
+    match named {
+        Some(named) if named < question => {
+            let _unsaid = eprintln!(rt;
+                "bracha: {address} sent a transcript of question {named}: right only if {question} is a slot of a chain"
+            );
+        }
+        _ => {}
+    }
+    Ok(())
 }
 
 /// Proposes a bit to the member whose desk is at the address, and prints its reply. The status is
