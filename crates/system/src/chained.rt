@@ -13,7 +13,8 @@ use disk::{Disk, Premise};
 use epochs::{Doors, Halt, Switchboard, Verdicts};
 use files::{
     Purpose, Source, Span, epoch_header, epoch_path, epochs_in, is_missing, look_into,
-    make_journal, open_good_disk, own_links, put_aside, refuse_forgotten, refuse_forgotten_in,
+    make_journal, note_newest, open_good_disk, own_links, put_aside, refuse_forgotten,
+    refuse_forgotten_in,
 };
 use machine::{Machine, RunFault};
 use member::Member;
@@ -109,7 +110,8 @@ impl Chained<'_> {
         self.run_opened(rt, epoch, &source, member, addresses)
     }
 
-    /// Makes the journals of the epochs up to this one that have none, one after the other.
+    /// Makes the journals of the epochs up to this one that have none, one after the other, and
+    /// notes each before its member says anything.
     fn make_journals<R: Machine>(&self, rt: &R, last: u64) -> Result<(), Failure> {
         let mut made = self.made.lock(rt);
         for epoch in *made..last.saturating_add(1) {
@@ -118,6 +120,7 @@ impl Chained<'_> {
                 |_| Fault::Memory,
             )?;
             make_journal::<Brand>(&self.host, path.as_str(), &header)?;
+            note_newest(&self.host, self.folder, epoch)?;
             *made = epoch.saturating_add(1);
         }
         Ok(())
@@ -227,6 +230,7 @@ impl Chained<'_> {
             };
             self.board.add(rt, verdicts).map_err(|_| Fault::Memory)?;
         }
+        note_newest(&self.host, self.folder, last)?;
         *self.made.lock(rt) = last.saturating_add(1);
         Ok(())
     }
