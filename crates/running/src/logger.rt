@@ -1,19 +1,15 @@
-//! The events of a run that its log is told, and the thread that tells them.
+//! The events of a run that wait to be told to its log.
 
 use crate::callers::Caller;
-use crate::ending::Ending;
 use crate::events::LogEvent;
 use crate::log::Log;
 use crate::refusals::Refusal;
-use crate::timing::LOG_PAUSE;
 use crate::watch::Telling;
 use disk::Disk;
 use machine::Machine;
-use node::{Book, Naming};
+use node::{Book, Decision, Naming};
 use std::alloc::Global;
 use std::sync::{Mutex, Wait};
-use std::thread;
-use std::time::Duration;
 
 /// The events that are to be told, if the member has a log. A thread of their own tells them, so
 /// that nobody waits for the log. Without a log each call does nothing.
@@ -83,22 +79,13 @@ impl Logger {
         }
     }
 
-    /// Tells the log what is to be told, ten times a second, until the end.
-    pub(crate) fn tell_on<L: Log, R: Machine>(
-        &self,
-        rt: &R,
-        alloc: Global,
-        ending: &Ending,
-        log: &Mutex<L>,
-    ) {
-        for _ in rt.forever() {
-            if ending.has_begun() {
-                return;
-            }
-            self.tell(rt, alloc, log);
-            thread::sleep(rt, Duration::from_millis(LOG_PAUSE));
+    /// Adds a decision, if it wasn't told. Returns `false` if there is no log, or 1,024 events
+    /// wait.
+    pub(crate) fn put_decision<R: Wait>(&self, rt: &R, decision: Decision) -> bool {
+        match &mut *self.telling.lock(rt) {
+            Some(telling) => telling.put_decision(decision),
+            None => false,
         }
-        unreachable!()
     }
 
     /// Tells the log what waits to be told, and then the member's stop, if that was seen.

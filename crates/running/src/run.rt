@@ -381,7 +381,7 @@ fn run_logged<D: Disk + Send, J: Life + Send + Sync, O: Operator, L: Log + Send,
     shared: &Shared<D, J>,
     doors: &Doors,
 ) -> Result<(), RunFault> {
-    let tells = || shared.logger.tell_on(rt, shared.alloc, &shared.ending, log);
+    let tells = || shared.tell_on(rt, log);
     let runs = || run_threads(rt, operator, shared, doors);
     let ((), ended) = thread::join(rt, tells, runs);
     shared.end_log(rt, log);

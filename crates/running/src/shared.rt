@@ -14,11 +14,13 @@ use crate::followers::Followers;
 use crate::hosts::{Peers, Sender};
 use crate::incoming::{Seated, Seats};
 use crate::life::Life;
+use crate::log::Log;
 use crate::logger::Logger;
 use crate::places::GREETINGS;
 use crate::refusals::Refusal;
 use crate::timing::{
-    ACCEPT_PAUSE, BOOK_PAUSE, BOOK_TRIES, LEAVE_PAUSE, LEAVE_TRIES, SEAT_PAUSE, SEAT_TRIES,
+    ACCEPT_PAUSE, BOOK_PAUSE, BOOK_TRIES, LEAVE_PAUSE, LEAVE_TRIES, LOG_PAUSE, SEAT_PAUSE,
+    SEAT_TRIES,
 };
 use crate::tossers::LockedTossers;
 use desk::Turns;
@@ -237,6 +239,35 @@ impl<D: Disk, J: Life> Shared<D, J> {
         if let Some(book) = self.try_book(rt) {
             self.look(rt, &book);
         }
+    }
+
+    /// Tells the log what is to be told, ten times a second, until the end.
+    pub(crate) fn tell_on<L: Log, R: Machine>(&self, rt: &R, log: &Mutex<L>) {
+        let mut number = 0;
+        for _ in rt.forever() {
+            if self.ending.has_begun() {
+                return;
+            }
+            number = self.log_decisions(rt, number);
+            self.logger.tell(rt, self.alloc, log);
+            thread::sleep(rt, Duration::from_millis(LOG_PAUSE));
+        }
+        unreachable!()
+    }
+
+    /// Logs the decisions that the member has saved, from that number on. Returns the number of the
+    /// next one. It waits for no disk.
+    fn log_decisions<R: Machine>(&self, rt: &R, from: u64) -> u64 {
+        let decided = self.hub.decided();
+        for number in from..decided {
+            let Some(decision) = self.hub.decision(rt, number) else {
+                return number;
+            };
+            if !self.logger.put_decision(rt, decision) {
+                return number;
+            }
+        }
+        decided
     }
 
     /// Returns the book; none if another thread has it for longer than a tenth of a second, as

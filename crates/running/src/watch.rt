@@ -1,6 +1,6 @@
 //! The part of a member's book that was told.
 
-ghost use Rattle.std.specs.Prelude.{◌≡◌, ◌⊎◌, ◌+◌, ◌++◌, ◌||◌, ◌&&◌, not, false, Option, None, IfOk, IsOk, is_some, slice_set};
+ghost use Rattle.std.specs.Prelude.{◌≡◌, ◌↔◌, ◌<◌, ◌⊎◌, ◌+◌, ◌++◌, ◌||◌, ◌&&◌, not, true, false, Option, Some, None, IfOk, IsOk, IsTrue, is_some, length, slice_set};
 ghost use Rattle.std.specs.Option.{option_to_list};
 ghost use Rattle.member.specs.Answers.{verdict_of};
 ghost use Rattle.member.specs.Readers.{member_header, member_saved, member_is_stopped};
@@ -8,7 +8,7 @@ ghost use Rattle.running.specs.Queues.{HasCome, HaveCome, none};
 ghost use Rattle.running.specs.Refusals.{IsNoted, counted_by, dues, empty, events_of, held};
 ghost use Rattle.running.specs.declared.refusals.Refusal.TheVariants as kinds;
 ghost use Rattle.running.specs.declared.refusals.RefusalCount.{RefusalCount};
-ghost use Rattle.running.specs.Watches.{HasLooked, decided_list, decision_of, is_told};
+ghost use Rattle.running.specs.Watches.{HasLooked, decided_list, decision_event, decision_of, is_told};
 
 use crate::callers::Caller;
 use crate::events::LogEvent;
@@ -16,7 +16,7 @@ use crate::log::Queue;
 use crate::pace::Pace;
 use crate::refusals::{Refusal, Refusals, put_line};
 use disk::Disk;
-use node::{Book, Naming};
+use node::{Book, Decision, Naming};
 use std::alloc::Global;
 use std::marker::Model;
 use terms::Memory;
@@ -75,6 +75,21 @@ impl Watch {
         let Some(bit) = book.verdict(question) else {
             return None;
         };
+        self.told[at] = true;
+        Some(LogEvent::Decided(question, bit))
+    }
+
+    /// The decision that was made of a question, if it is to be told. It is told once.
+    fn note(&mut self, question: u16, bit: bool) -> Option<LogEvent>
+        ensures event { result
+            ≡ decision_event (is_told self.old question) question (Some bit) }
+        ensures told { self.new
+            ≡ record self.old { told = slice_set self.old.told question true } }
+    {
+        let at = usize::from(question);
+        if at >= self.told.len() || self.told[at] {
+            return None;
+        }
         self.told[at] = true;
         Some(LogEvent::Decided(question, bit))
     }
@@ -198,6 +213,28 @@ impl Telling {
             self.put(decision);
         }
         self.watch.see_stop(book);
+    }
+
+    /// Queues a decision, if it wasn't told, and returns `true`. While the queue has no room it
+    /// returns `false`, and nothing changes.
+    pub(crate) fn put_decision(&mut self, decision: Decision) -> bool
+        ensures room { IsTrue result ↔ (length self.old.queue.events < 1024) }
+        ensures queue { IsTrue result → HaveCome self.old.queue
+            (option_to_list (decision_event (is_told self.old.watch decision.question)
+            decision.question (Some decision.bit))) self.new.queue }
+        ensures told { IsTrue result → self.new.watch
+            ≡ record self.old.watch {
+              told = slice_set self.old.watch.told decision.question true;
+            } }
+        ensures full { result ≡ false → self.new ≡ self.old }
+        ensures owed { self.new.tells_stop ≡ self.old.tells_stop }
+    {
+        if self.queue.is_full() {
+            return false;
+        }
+        let event = self.watch.note(decision.question, decision.bit);
+        self.put(event);
+        true
     }
 
     /// Returns `true` if the member's stop is to be told: it was seen, and this is the first call
