@@ -25,6 +25,8 @@ pub enum Audited {
 #[derive(Clone, Copy, Debug, PartialEq, Eq)]
 pub struct AuditWords {
     pub all: bool,
+    /// A time was given for which members are waited for.
+    pub timed: bool,
     pub question: Option<u16>,
     pub n: Option<u16>,
     pub t: Option<u16>,
@@ -60,7 +62,7 @@ pub struct SimulateWords<'a> {
 
 /// The forms of `audit`.
 const AUDIT: &str =
-    "wants FILE --n N --t T --questions Q, or --all with the file client.toml and a question";
+    "wants FILE --n N --t T --questions Q, or --all with the file client.toml and a question, which --timeout goes with";
 
 /// The forms of `simulate`.
 const SIMULATE: &str =
@@ -75,6 +77,9 @@ fn audited_by(words: &AuditWords) -> Option<Audited>
             (Some(question), None, None, None) => Some(Audited::Cluster { question }),
             _ => None,
         };
+    }
+    if words.timed {
+        return None;
     }
     match (words.question, words.n, words.t, words.questions) {
         (None, Some(n), Some(t), Some(questions)) => Some(Audited::File { n, t, questions }),
