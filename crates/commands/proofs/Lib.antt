@@ -15,3 +15,5 @@ pub mod Asking
 mod Counting
 pub mod Staging
 pub mod Showing
+mod Waiting
+mod SameObjects

@@ -33,6 +33,12 @@ decision_reply (Some false) = codes "DECIDED 0"
 decision_reply (Some true) = codes "DECIDED 1"
 decision_reply None = codes "UNDECIDED"
 
+-- the object of JSON that says the same
+abbrev pub decision_object : Option Bool → List ℕ
+decision_object (Some false) = codes "{\"decided\":0}"
+decision_object (Some true) = codes "{\"decided\":1}"
+decision_object None = codes "{\"undecided\":true}"
+
 -- the line that asks whether a member is up
 abbrev pub status_line : List ℕ
 status_line = line (codes "STATUS")

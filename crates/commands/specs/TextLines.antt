@@ -1,5 +1,5 @@
 -- Where in a text a fault is.
-use Rattle.std.specs.Prelude.{ℕ, ◌≡◌, ◌⊎◌, ◌==◌, ◌-◌, ◌<◌, ◌≤◌, List, [], ◌∷◌, length, take, slice_get, IsSomeAnd, Option, Some, None}
+use Rattle.std.specs.Prelude.{ℕ, ◌≡◌, ◌⊎◌, ◌==◌, ◌-◌, ◌<◌, ◌≤◌, List, [], ◌∷◌, suc, length, take, drop, slice_get, IsSomeAnd, Bool, false, if◌then◌else◌, Option, Some, None}
 use Rattle.std.specs.List.{AllByRecursion, slice_split}
 pub use Rattle.numerals.specs.Sentences.{texts}
 
@@ -29,11 +29,17 @@ abbrev pub SaysKey : List ℕ → List ℕ → Type 0
 SaysKey name line = (take (length name) line ≡ name) × IsSomeAnd (slice_get line (length name)) EndsKey
 
 -- the line begins with `[`
-abbrev pub IsHead : List ℕ → Type 0
-IsHead [] = ⊥
-IsHead (byte ∷ line) = byte ≡ 91
+abbrev pub is_head : List ℕ → Bool
+is_head [] = false
+is_head (byte ∷ line) = byte == 91
 
--- the line of that number, counted from 1, gives the key a value, and a table begins above it
-abbrev pub IsLineInTable : List ℕ → List (List ℕ) → ℕ → Type 0
-IsLineInTable name lines number =
-    (head : ℕ) × IsSomeAnd (slice_get lines head) IsHead × (head < number) × IsSomeAnd (slice_get lines (number - 1)) (SaysKey name)
+-- how many lines stand above the first at which a table begins: all, if none does
+abbrev pub above_table : List (List ℕ) → ℕ
+above_table [] = 0
+above_table (line ∷ lines) = if is_head line then 0 else suc (above_table lines)
+
+-- the number, counted from 1, of the first line that is such below so many, or none where none of these is
+abbrev pub IsFirstBelow : (above : ℕ) → (List ℕ → Type 0) → List (List ℕ) → Option ℕ → Type 0
+IsFirstBelow above Is lines None = NoLine Is (drop above lines)
+IsFirstBelow above Is lines (Some number) =
+    (above < number) × NoLine Is (take (number - 1 - above) (drop above lines)) × IsSomeAnd (slice_get lines (number - 1)) Is

@@ -4,7 +4,7 @@
 ghost use Rattle.std.specs.Prelude.{ℕ, List, [], ◌≡◌, ◌∷◌, ◌++◌, ◌↔◌, IsTrue, IfOk, IfErr, IfSome, ◌≢◌, string_bytes, codes, Err};
 ghost use Rattle.std.specs.Io.KnownBytes.{Appends, Consumes};
 ghost use Rattle.numerals.specs.Lines.{NoEnd};
-ghost use Rattle.commands.specs.Talks.{TellsDecision, decision_reply, propose_line, ask_line, await_line, state_line, links_line, status_line, member_line, member_words, IsUp, IsGood, SaysStanding, HasReadyStatus, HasStatus};
+ghost use Rattle.commands.specs.Talks.{TellsDecision, decision_object, decision_reply, propose_line, ask_line, await_line, state_line, links_line, status_line, member_line, member_words, IsUp, IsGood, SaysStanding, HasReadyStatus, HasStatus};
 ghost use Rattle.commands.specs.Replies.{IsMemberObject, IsReplyLine, SaysSame, member_object};
 ghost use Rattle.commands.specs.declared.fault.TalkFault.TheVariants.{NoAnswer};
 
@@ -243,6 +243,19 @@ pub fn decision_reply(decision: Option<bool>) -> &'static str
         Some(false) => "DECIDED 0",
         Some(true) => "DECIDED 1",
         None => "UNDECIDED",
+    }
+}
+
+/// Returns the object of JSON that says the same as the reply that tells a decision.
+#[tactic(auto, using(crate::proofs::SameObjects::decision_says_same))]
+pub(crate) fn decision_object(decision: Option<bool>) -> &'static str
+    ensures value { result.now ≡ decision_object decision }
+    ensures same { SaysSame (decision_reply decision) (decision_object decision) }
+{
+    match decision {
+        Some(false) => "{\"decided\":0}",
+        Some(true) => "{\"decided\":1}",
+        None => "{\"undecided\":true}",
     }
 }
 

@@ -1,12 +1,12 @@
 //! Members' words on one question, and what the commands over a whole cluster print of them.
 
-ghost use Rattle.std.specs.Prelude.{ℕ, Bool, List, [], ◌≡◌, ◌∷◌, ◌++◌, ◌↔◌, IfOk, IfSome, IsNone, IsTrue, None, false, string_bytes, true};
+ghost use Rattle.std.specs.Prelude.{ℕ, Bool, List, [], ◌≡◌, ◌≢◌, ◌∷◌, ◌++◌, ◌↔◌, Err, IfOk, IfSome, IsNone, IsTrue, None, false, string_bytes, true};
 ghost use Rattle.std.specs.Io.KnownBytes.{Appends};
-ghost use Rattle.commands.specs.Replies.{SaysSame};
 ghost use Rattle.commands.specs.Surveys.{IsTranscriptOf, IsWord, TakesPart, bit_number, bit_remark, later_word, next_of, next_of_other, one_remark, remark, remarks_from, status_for, transcript_head, zero_remark};
-ghost use Rattle.commands.specs.Talks.{TellsDecision, decision_reply};
+ghost use Rattle.commands.specs.Talks.{TellsDecision, decision_object, decision_reply};
+ghost use Rattle.commands.specs.declared.fault.TalkFault.TheVariants.{NoAnswer};
 
-use crate::client::{decision_of, decision_reply, tell, tell_object};
+use crate::client::{decision_object, decision_of, decision_reply, tell};
 use crate::fault::TalkFault;
 use numerals::{behind, is};
 use std::alloc::{AllocError, Global};
@@ -177,14 +177,27 @@ pub fn tell_decision<W: Write>(
         IfOk result (λ _. Appends (W.contents output.old) (W.contents output.new)
         (decision_reply decision ++ 10 ∷ [])) }
     ensures object { json ≡ true →
-        IfOk result (λ _. (object : List ℕ) × SaysSame (decision_reply decision) object
-        × Appends (W.contents output.old) (W.contents output.new) (object ++ 10 ∷ [])) }
+        IfOk result (λ _. Appends (W.contents output.old) (W.contents output.new)
+        (decision_object decision ++ 10 ∷ [])) }
+    ensures only { result ≢ Err NoAnswer }
 {
-    let mut reply = Vec::new(alloc);
-    reply.extend_from_slice(decision_reply(decision).as_bytes())?;
-    match tell_either(alloc, reply, json, output) {
+    let mut line = Vec::new(alloc);
+    line.extend_from_slice(decision_text(decision, json).as_bytes())?;
+    match tell(line, output) {
         Ok(_) => Ok(status_for(decision)),
         Err(fault) => Err(fault),
+    }
+}
+
+/// Returns the reply that tells the decision, or the object of JSON that says the same.
+fn decision_text(decision: Option<bool>, json: bool) -> &'static str
+    ensures line { json ≡ false → result.now ≡ decision_reply decision }
+    ensures object { json ≡ true → result.now ≡ decision_object decision }
+{
+    if json {
+        decision_object(decision)
+    } else {
+        decision_reply(decision)
     }
 }
 
@@ -196,25 +209,6 @@ fn status_for(decision: Option<bool>) -> u8
         Some(_) => 0,
         None => 1,
     }
-}
-
-/// Writes the reply, or the object of JSON that says the same.
-fn tell_either<W: Write>(
-    alloc: Global,
-    reply: Vec<u8>,
-    json: bool,
-    output: &mut W,
-) -> Result<u8, TalkFault>
-    ensures line { json ≡ false →
-        IfOk result (λ _. Appends (W.contents output.old) (W.contents output.new)
-        (reply.items ++ 10 ∷ [])) }
-    ensures object { json ≡ true → IfOk result (λ _. (object : List ℕ) × SaysSame reply.items object
-        × Appends (W.contents output.old) (W.contents output.new) (object ++ 10 ∷ [])) }
-{
-    if json {
-        return tell_object(alloc, &reply, output);
-    }
-    tell(reply, output)
 }
 
 /// Returns the bit of a text that begins as a transcript of this question; none if it doesn't.

@@ -1,9 +1,9 @@
 //! The place of a fault in a text.
 
-ghost use Rattle.std.specs.Prelude.{◌≡◌, ◌-◌, ◌<◌, ◌≤◌, ◌↔◌, IfOk, IfSome, IsNone, IsSome, IsSomeAnd, IsTrue, None, length, option_map, slice_get, take};
+ghost use Rattle.std.specs.Prelude.{◌≡◌, ◌-◌, ◌≤◌, ◌↔◌, IfOk, IfSome, IsNone, IsSome, IsTrue, None, drop, length, option_map, slice_get, take};
 ghost use Rattle.settings.specs.Keys.{key_text};
 ghost use Rattle.toml.specs.Parse.{parse_document};
-ghost use Rattle.commands.specs.TextLines.{EndsKey, IsFirstLine, IsHead, IsLineIn, IsLineInTable, SaysKey, lines_in, texts};
+ghost use Rattle.commands.specs.TextLines.{EndsKey, IsFirstBelow, IsFirstLine, IsLineIn, SaysKey, above_table, is_head, lines_in, texts};
 
 use numerals::is;
 use settings::Key;
@@ -50,46 +50,32 @@ pub fn line_of_name(alloc: Global, text: &[u8], name: &str) -> Result<Option<usi
     Ok(first_line(&lines, name))
 }
 
-/// The number of the first line, counted from 1, that gives the key of that name a value; none
-/// where no line does.
-fn first_line(lines: &[&[u8]], name: &str) -> Option<usize>
-    ensures { IsFirstLine (SaysKey name.now) (texts lines.now) result }
-{
-    for (index, line) in lines.iter().enumerate() {
-        if says(line, name) {
-            return Some(index + 1);
-        }
-    }
-    None
-}
-
-/// The number of the first line below the head of a table, counted from 1, that gives a key of that
-/// name a value; none where no line does.
+/// Returns the number of the first line, counted from 1, that gives a key of that name a value,
+/// from the first head of a table on. `None` if none does, or the text has no table.
 pub fn line_in_table(alloc: Global, text: &[u8], name: &str) -> Result<Option<usize>, AllocError>
-    ensures { IfOk result (λ found. IfSome found (IsLineInTable name.now (lines_in text.now))) }
+    ensures { IfOk result (IsFirstBelow (above_table (lines_in text.now)) (SaysKey name.now)
+        (lines_in text.now)) }
 {
     let lines = lines_in(alloc, text)?;
-    match first_head(&lines) {
-        Some(head) => Ok(line_behind(&lines, name, head)),
-        None => Ok(None),
-    }
+    Ok(first_below(&lines, name, above_table(&lines)))
 }
 
-/// The place of the first line at which a table begins; none where none does.
-fn first_head(lines: &[&[u8]]) -> Option<usize>
-    ensures { IfSome result (λ place. IsSomeAnd (slice_get (texts lines.now) place) IsHead) }
+/// Returns the number of lines above the first at which a table begins. All, if none does.
+fn above_table(lines: &[&[u8]]) -> usize
+    ensures value { result ≡ above_table (texts lines.now) }
+    ensures few { result ≤ length lines.now }
 {
     for (index, line) in lines.iter().enumerate() {
         if is_head(line) {
-            return Some(index);
+            return index;
         }
     }
-    None
+    lines.len()
 }
 
 /// Returns `true` if a table begins at the line.
 fn is_head(line: &[u8]) -> bool
-    ensures { IsTrue result ↔ IsHead line.now }
+    ensures { result ≡ is_head line.now }
 {
     match line.first() {
         Some(byte) => *byte == b'[',
@@ -97,29 +83,31 @@ fn is_head(line: &[u8]) -> bool
     }
 }
 
-/// The number of the first line behind that place, counted from 1, that gives the key of that name
-/// a value.
-fn line_behind(lines: &[&[u8]], name: &str, place: usize) -> Option<usize>
-    ensures { IfSome result
-        (λ number. (place < number) × IsSomeAnd (slice_get (texts lines.now) (number - 1))
-        (SaysKey name.now)) }
+/// Returns the number of the first line below so many, counted from 1, that gives the key of that
+/// name a value.
+fn first_below(lines: &[&[u8]], name: &str, above: usize) -> Option<usize>
+    requires { above ≤ length lines.now }
+    ensures { IsFirstBelow above (SaysKey name.now) (texts lines.now) result }
+{
+    let _count = lines.len();
+    match first_line(rest_of(lines, above), name) {
+        Some(number) => Some(above + number),
+        None => None,
+    }
+}
+
+/// The number of the first line, counted from 1, that gives the key of that name a value; none
+/// where no line does.
+fn first_line(lines: &[&[u8]], name: &str) -> Option<usize>
+    ensures first { IsFirstLine (SaysKey name.now) (texts lines.now) result }
+    ensures few { IfSome result (λ number. number ≤ length lines.now) }
 {
     for (index, line) in lines.iter().enumerate() {
-        if is_behind(index, place, line, name) {
-            let number = index + 1;
-            return Some(number);
+        if says(line, name) {
+            return Some(index + 1);
         }
     }
     None
-}
-
-/// Returns `true` if the line at this index stands behind that place, or at it, and gives the key
-/// of that name a value.
-fn is_behind(index: usize, place: usize, line: &[u8], name: &str) -> bool
-    ensures place { IsTrue result → place ≤ index }
-    ensures says { IsTrue result → SaysKey name.now line.now }
-{
-    index >= place && says(line, name)
 }
 
 /// Returns `true` if the line gives the key of that name a value: it begins with the name, and a
@@ -139,6 +127,14 @@ fn ends_key(byte: u8) -> bool
     ensures { IsTrue result ↔ EndsKey byte }
 {
     byte == b' ' || byte == b'='
+}
+
+/// Returns the lines below so many.
+fn rest_of<'a, 'b>(lines: &'a [&'b [u8]], above: usize) -> &'a [&'b [u8]]
+    requires { above ≤ length lines.now }
+    ensures { result.now ≡ drop above lines.now }
+{
+    &lines[above..]
 }
 
 /// Returns the number of the line, counted from 1, in which the byte at this place stands.

@@ -17,7 +17,7 @@ use Rattle.journal.specs.declared.fault.JournalFault.{JournalFault}
 use Rattle.journal.specs.declared.fault.JournalFault.TheVariants as unheld
 use Rattle.commands.specs.Asked.{IsSaidOfKey, asked_words}
 use Rattle.commands.specs.Owners.{IsHeadless, IsLongOwner, IsNoJournal, IsOtherOwner, IsOwner}
-use Rattle.commands.specs.TextLines.{IsFirstLine, IsLineIn, IsLineInTable, SaysKey, lines_in}
+use Rattle.commands.specs.TextLines.{IsFirstBelow, IsFirstLine, IsLineIn, SaysKey, above_table, lines_in}
 use Rattle.commands.specs.Damage.{IsPlaceOf, shown_bytes}
 use Rattle.commands.specs.OldDamage.{IsOldPlaceOf}
 use Rattle.migration.specs.declared.fault.MigrateFault.{MigrateFault}
@@ -84,7 +84,8 @@ place_at (Err refused) = place.Whole
 
 -- the line of a key that is ignored, which may stand in a table, or the whole text
 abbrev pub IsStrayPlace : List ℕ → Bool → List ℕ → Whereabouts → Type 0
-IsStrayPlace name true text (place.Line number) = IsLineInTable name (lines_in text) number
+IsStrayPlace name true text (place.Line number) =
+    IsFirstBelow (above_table (lines_in text)) (SaysKey name) (lines_in text) (Some number)
 IsStrayPlace name false text (place.Line number) = IsFirstLine (SaysKey name) (lines_in text) (Some number)
 IsStrayPlace name in_table text place.Whole = ⊤
 IsStrayPlace name in_table text other = ⊥

@@ -1,11 +1,13 @@
-use Rattle.std.proofs.Common.{rules, inr, sym, subst, ℕ, List, ◌≡◌, ◌+◌, ◌*◌}
-use Rattle.numerals.specs.Numbers.{IsBelow}
+use Rattle.std.proofs.Common.{rules}
+use Rattle.commands.proofs.Waiting.{parts_before, whole_alone}
 use Rattle.commands.proofs.patience.seconds.Goals as goal
 
-pub returns-in_ok-part-in-Some : goal.returns-in_ok-part-in-Some
-returns-in_ok-part-in-Some c =
-    let number = c.in_ok-number16-in-Some.field-0 in
-    let part = c.in_ok-part-in-Some.part in
-    let whole : IsBelow 16 c.in-Some.whole.now number = search (rules, c.as_bytes.ensures.value, c.in_ok-number16-in-Some.ensures.some) in
-    let sum : 1000 * c.from-whole.result + part ≡ 1000 * number + part = search (rules, c.from-whole.ensures) in
-    inr (c.in-Some.whole.now, c.in-Some.digits.now, number, part, c.in-Some.ensures, whole, c.in_ok-part-in-Some.ensures.part, sum)
+pub returns-in-Some-clause-exact : goal.returns-in-Some-clause-exact
+returns-in-Some-clause-exact c = λ time is.
+    let are = parts_before c.args.text.now c.in-Some.front.now c.in-Some.digits.now time c.in-Some.ensures.parts c.in-Some.ensures.exact is in
+    search (rules, c.with_part.ensures.exact time are)
+
+pub returns-in-None-clause-exact : goal.returns-in-None-clause-exact
+returns-in-None-clause-exact c = λ time is.
+    let alone = whole_alone c.args.text.now time c.in-None.ensures.exact is in
+    search (rules, c.whole.ensures.exact time alone)
