@@ -1,7 +1,7 @@
 -- What the members of a TOML table say of a client's settings, and the first thing that is wrong with them.
-use Rattle.std.specs.Prelude.{ℕ, ◌≡◌, ◌⊎◌, ◌<◌, ◌==◌, ◌&&◌, eqb, filter, nat_lt, not, Bool, true, false, Option, Some, None, List, [], ◌∷◌, ◌++◌, codes, length, if◌then◌else◌}
+use Rattle.std.specs.Prelude.{ℕ, ◌≡◌, ◌⊎◌, ◌==◌, ◌&&◌, eqb, filter, nat_lt, not, Bool, true, false, Option, Some, None, List, [], ◌∷◌, ◌++◌, codes, length, if◌then◌else◌}
 use Rattle.std.specs.Cmp.Lexicographic.{pointwise}
-use Rattle.std.specs.List.{flat_map, list_any}
+use Rattle.std.specs.List.{find, flat_map, list_any}
 use Rattle.toml.specs.Data.{Members}
 use Rattle.terms_prelude.specs.Terms.{new_size, size_fault}
 use Rattle.settings.specs.declared.address.Address.{Address}
@@ -40,6 +40,10 @@ count_of desks desk = length (filter (is_same desk) desks)
 -- an address stands at two places of the list, or more
 abbrev pub stands_twice : List Address → Bool
 stands_twice desks = list_any (λ desk. nat_lt 1 (count_of desks desk)) desks
+
+-- the first that does
+abbrev pub first_twice : List Address → Option Address
+first_twice desks = find (λ desk. nat_lt 1 (count_of desks desk)) desks
 
 -- there are n desks, and each is another one
 abbrev pub are_desks_of : ℕ → List Address → Bool
@@ -90,10 +94,10 @@ abbrev pub IsClientSettings : Option Members → ClientSettings → Type 0
 IsClientSettings None s = ⊥
 IsClientSettings (Some ms) s = GivesClients ms s
 
--- the desk stands at two places of the document's list, or more
-abbrev pub HasDeskTwice : Option Members → Address → Type 0
-HasDeskTwice None desk = ⊥
-HasDeskTwice (Some ms) desk = (desks : List Address) × HasAddresses ms Desks desks × (1 < count_of desks desk)
+-- the document has this list of desks
+abbrev pub ListsDesks : Option Members → List Address → Type 0
+ListsDesks None desks = ⊥
+ListsDesks (Some ms) desks = HasAddresses ms Desks desks
 
 -- the line of a chain's clients; none of another cluster's
 abbrev pub chain_line : Bool → List ℕ

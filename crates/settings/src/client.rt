@@ -1,17 +1,17 @@
 //! The settings of a client of a cluster.
 
-ghost use Rattle.std.specs.Prelude.{◌≡◌, ◌⊎◌, ◌↔◌, IfOk, IfErr, IfSome, IsTrue, string_bytes};
+ghost use Rattle.std.specs.Prelude.{◌≡◌, ◌⊎◌, ◌↔◌, IfOk, IfErr, IsTrue, None, string_bytes};
 ghost use Rattle.toml.specs.Parse.{parse_document};
 ghost use Rattle.settings.specs.Clients.{IsLikeClient, IsUnwrittenClient, chain_line, client_text};
 
 use crate::address::Address;
-use crate::client_entries::ClientEntries;
+use crate::client_entries::{ClientEntries, none_twice, twice_in};
 use crate::document::table;
 use crate::fault::SettingsFault;
 use crate::keys::Key;
 use crate::text::{peer_entries, sized_text};
 use std::alloc::{AllocError, Global};
-use terms::Size;
+use terms::{Memory, Size};
 
 /// The settings of a client that speaks to all members of a cluster. There is no secret in them.
 #[derive(Debug, Drop)]
@@ -27,7 +27,9 @@ pub struct ClientSettings {
 }
 
 impl ClientSettings {
-    ghost use Rattle.settings.specs.Clients.{HasDeskTwice, IsClientFault, IsClientSettings};
+    ghost use Rattle.std.specs.Prelude.{List};
+    ghost use Rattle.settings.specs.Clients.{IsClientFault, IsClientSettings, ListsDesks, first_twice};
+    ghost use Rattle.settings.specs.declared.address.Address.{Address};
     ghost use Rattle.settings.specs.declared.fault.SettingsFault.{SettingsFault};
 
     /// The settings that the TOML text gives, or the first thing that is wrong with it. Keys of
@@ -55,19 +57,23 @@ impl ClientSettings {
         ClientEntries::read(alloc, &table)?.fit()
     }
 
-    /// Returns the first desk of the TOML text that stands at two places, or more: then
-    /// [`ClientSettings::parse`] refuses it. None too if another key has no value of its own type
-    /// and range, or an allocation failed.
-    pub fn desk_twice(alloc: Global, text: &str) -> Option<Address>
-        ensures { IfSome result (HasDeskTwice (parse_document text.now)) }
+    /// Returns the first desk that stands at two places of the TOML text's list, or more: then
+    /// [`ClientSettings::parse`] refuses the text. `None` if each stands once, or the text lists
+    /// none.
+    ///
+    /// # Errors
+    ///
+    /// [`Memory`] if an allocation failed.
+    pub fn desk_twice(alloc: Global, text: &str) -> Result<Option<Address>, Memory>
+        ensures first { (desks : List Address) → ListsDesks (parse_document text.now) desks →
+            IfOk result (λ found. found ≡ first_twice desks) }
+        ensures unlisted { ((desks : List Address) → ListsDesks (parse_document text.now) desks → ⊥)
+            → IfOk result (λ found. found ≡ None) }
     {
-        let Ok(table) = table(alloc, text) else {
-            return None;
-        };
-        let Ok(entries) = ClientEntries::read(alloc, &table) else {
-            return None;
-        };
-        entries.desk_twice()
+        match table(alloc, text) {
+            Ok(table) => twice_in(alloc, &table),
+            Err(fault) => none_twice(fault),
+        }
     }
 
     /// Returns the settings as a text of TOML, a line for each key, which [`ClientSettings::parse`]

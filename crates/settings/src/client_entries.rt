@@ -1,8 +1,10 @@
 //! The values of the keys of a client's settings, each by itself.
 
-ghost use Rattle.std.specs.Prelude.{◌≡◌, ◌<◌, None, Some, IfOk, IfErr, IfSome};
+ghost use Rattle.std.specs.Prelude.{◌≡◌, ◌≢◌, List, None, Some, IfOk, IfErr, IsErr, IsOk};
 ghost use Rattle.toml.specs.View.{table_view};
-ghost use Rattle.settings.specs.Clients.{are_desks_of, count_of, is_same, stands_twice};
+ghost use Rattle.settings.specs.Clients.{are_desks_of, count_of, first_twice, is_same, stands_twice};
+ghost use Rattle.settings.specs.Settings.{HasAddresses};
+ghost use Rattle.settings.specs.declared.keys.Key.TheVariants.{Desks};
 
 use crate::address::Address;
 use crate::client::ClientSettings;
@@ -11,6 +13,7 @@ use crate::fault::SettingsFault;
 use crate::keys::Key;
 use numerals::size_from;
 use std::alloc::Global;
+use terms::Memory;
 use toml::Table;
 
 /// The settings' entries, each in its own range.
@@ -44,18 +47,6 @@ impl ClientEntries {
         })
     }
 
-    /// Returns the first desk that stands at two places of the list, or more, if there is one.
-    pub fn desk_twice(&self) -> Option<Address>
-        ensures { IfSome result (λ desk. 1 < count_of self.now.desks.items desk) }
-    {
-        for desk in &self.desks {
-            if count_of(&self.desks, desk) > 1 {
-                return Some(*desk);
-            }
-        }
-        None
-    }
-
     /// The settings of the entries, or the first thing in which they don't fit one another.
     pub fn fit(self) -> Result<ClientSettings, SettingsFault>
         ensures ok { IfOk result
@@ -73,6 +64,46 @@ impl ClientEntries {
             chain: self.chain,
         })
     }
+}
+
+/// Returns the first desk of the table's list that stands at two places of it, or more; none too if
+/// the table lists no desks.
+pub(crate) fn twice_in(alloc: Global, table: &Table) -> Result<Option<Address>, Memory>
+    ensures first { (desks : List Address) → HasAddresses (table_view table.now) Desks desks →
+        IfOk result (λ found. found ≡ first_twice desks) }
+    ensures unlisted { ((desks : List Address) → HasAddresses (table_view table.now) Desks desks →
+        ⊥) → IfOk result (λ found. found ≡ None) }
+{
+    match addresses(alloc, table, Key::Desks) {
+        Ok(desks) => Ok(first_twice(&desks)),
+        Err(fault) => none_twice(fault),
+    }
+}
+
+/// Returns that no desk stands twice in what has this fault, unless the fault is want of memory.
+pub(crate) fn none_twice(fault: SettingsFault) -> Result<Option<Address>, Memory>
+    ensures none { IfOk result (λ found. found ≡ None) }
+    ensures memory { fault ≡ SettingsFault.Memory → IsErr result }
+    ensures others { fault ≢ SettingsFault.Memory → IsOk result }
+{
+    match fault {
+        SettingsFault::Text => Ok(None),
+        SettingsFault::Key(_) => Ok(None),
+        SettingsFault::Size(_) => Ok(None),
+        SettingsFault::Memory => Err(Memory),
+    }
+}
+
+/// Returns the first desk that stands at two places of the list, or more.
+fn first_twice(desks: &[Address]) -> Option<Address>
+    ensures { result ≡ first_twice desks.now }
+{
+    for desk in desks {
+        if count_of(desks, desk) > 1 {
+            return Some(*desk);
+        }
+    }
+    None
 }
 
 /// Returns `true` if there are n desks, and each is another one.
