@@ -167,6 +167,7 @@ fn transcript<R: Caller>(
 fn audit<R: Caller>(rt: &R, host: &HostRuntime, words: AuditWords<'_>) -> Result<u8, Failure> {
     let form = files::AuditWords {
         all: words.all,
+        timed: words.timeout.is_some(),
         question: words.question,
         n: words.n,
         t: words.t,

@@ -1,5 +1,5 @@
 -- How questions end.
-use Rattle.std.specs.Prelude.{ℕ, ◌==◌, ◌&&◌, Bool, true, false, not, if◌then◌else◌, max, Option, Some, None, List, [], ◌∷◌}
+use Rattle.std.specs.Prelude.{ℕ, ◌&&◌, Bool, true, false, not, if◌then◌else◌, max, Option, Some, None, List, [], ◌∷◌}
 use Rattle.std.specs.List.{list_any}
 use Rattle.chances.specs.declared.ends.End.{End}
 use Rattle.chances.specs.declared.ends.End.TheVariants.{Decided, Open, TwoAnswers}

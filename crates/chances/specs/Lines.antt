@@ -1,5 +1,5 @@
 -- What `bracha rounds` prints.
-use Rattle.std.specs.Prelude.{ℕ, zero, suc, ◌+◌, ◌==◌, ltb, Bool, true, false, max, List, [], ◌∷◌, ◌++◌, codes, length}
+use Rattle.std.specs.Prelude.{ℕ, zero, suc, ◌==◌, ltb, Bool, true, false, max, List, [], ◌∷◌, ◌++◌, codes, length}
 use Rattle.std.specs.List.{count_by}
 use Rattle.std.specs.Fmt.{decimal}
 use Rattle.chances.specs.declared.ends.End.{End}

@@ -1,5 +1,5 @@
 -- What was said and isn't delivered yet.
-use Rattle.std.specs.Prelude.{ℕ, ◌≡◌, ◌+◌, ◌++◌, Option, Some, None, List, [], slice_get, take, drop}
+use Rattle.std.specs.Prelude.{ℕ, ◌≡◌, ◌⊎◌, ◌<◌, ◌+◌, ◌++◌, ◌∷◌, Option, Some, None, List, [], length, slice_get, take, drop}
 use Rattle.std.specs.declared.alloc.Global.{Global}
 use Rattle.std.specs.declared.vec.Vec.{Vec}
 use Rattle.terms_prelude.specs.Terms.{Statement}
@@ -27,3 +27,22 @@ queue_in None to = []
 -- what this sender said and this receiver hasn't got
 unfoldable pub queue_of : Links → ℕ → ℕ → List Statement
 queue_of links from to = queue_in (slice_get links.rows.items from) to
+
+-- how many receivers there are in such a row, if there is one
+abbrev pub count_in : Option (Vec (Vec Statement Global) Global) → ℕ
+count_in (Some row) = length row.items
+count_in None = 0
+
+-- how many receivers this sender has links to, the first ones
+unfoldable pub receivers_of : Links → ℕ → ℕ
+receivers_of links from = count_in (slice_get links.rows.items from)
+
+-- each queue of a row has the statement at its end, in addition to what it had
+pub record AddsToAll (statement : Statement) (before after : List (Vec Statement Global)) : Type 0 where
+  pub count : length after ≡ length before
+  pub said : (to : ℕ) → to < length before → queue_to after to ≡ queue_to before to ++ statement ∷ []
+
+-- each queue of a row is as it was, or has the statement at its end, in addition to what it had
+pub record AddsToSome (statement : Statement) (before after : List (Vec Statement Global)) : Type 0 where
+  pub count : length after ≡ length before
+  pub each : (to : ℕ) → (queue_to after to ≡ queue_to before to) ⊎ (queue_to after to ≡ queue_to before to ++ statement ∷ [])

@@ -1,5 +1,5 @@
 -- The adversary's rule.
-use Rattle.std.specs.Prelude.{ℕ, zero, suc, ◌≡◌, ◌+◌, ◌-◌, ◌/◌, ◌%◌, ◌<◌, ◌≤◌, Bool, true, false, if◌then◌else◌, ltb, eqb, min, Option, Some, None, List, [], ◌∷◌, ◌++◌, length, take, drop}
+use Rattle.std.specs.Prelude.{ℕ, ◌+◌, ◌-◌, ◌/◌, ◌%◌, if◌then◌else◌, ltb, eqb, min, Option, List, [], ◌∷◌, ◌++◌, length, take, drop}
 use Rattle.std.specs.List.{count_by}
 use Rattle.terms_prelude.specs.Terms.{Size, Value, Zero, One, SureZero, SureOne, Unsure, value_is}
 

@@ -1,7 +1,9 @@
 //! Deliveries that an adversary chooses. It brings a step to its end before it begins the next;
 //! what it brings to whom and in which order is the rule of [`crate::strategy`].
 
-ghost use Rattle.std.specs.Prelude.{◌≤◌, length};
+ghost use Rattle.std.specs.Prelude.{ℕ, ◌≢◌, ◌≤◌, Err, OnOk, length};
+ghost use Rattle.chances.specs.Tables.{Follows};
+ghost use Rattle.chances.specs.declared.fault.PlayFault.TheVariants as faults;
 
 use crate::fault::PlayFault;
 use crate::steps::{STEPS, Step};
@@ -11,7 +13,12 @@ use std::alloc::{AllocError, Global};
 use terms::{Kind, MOST_MEMBERS, Size, Statement, Value};
 
 /// Delivers as the adversary does, until each correct member has decided, or all steps are played.
-pub fn deliver_chosen(table: &mut Table, alloc: Global, in_order: bool) -> Result<(), PlayFault> {
+#[tactic(auto, using(crate::proofs::Moves::none_followed, crate::proofs::Moves::follows_then))]
+pub fn deliver_chosen(table: &mut Table, alloc: Global, in_order: bool) -> Result<(), PlayFault>
+    ensures follows { OnOk result (Follows table.old table.new) }
+    ensures liars { result ≢ Err faults.Liars }
+    ensures two { (seed : ℕ) → result ≢ Err (faults.TwoAnswers seed) }
+{
     for step in 0..STEPS {
         play_step(table, alloc, Step(step), in_order)?;
         drain_before(table, Step(step + 1))?;
@@ -23,12 +30,12 @@ pub fn deliver_chosen(table: &mut Table, alloc: Global, in_order: bool) -> Resul
 }
 
 /// Plays a step.
-fn play_step(
-    table: &mut Table,
-    alloc: Global,
-    step: Step,
-    in_order: bool,
-) -> Result<(), PlayFault> {
+#[tactic(auto, using(crate::proofs::Moves::none_followed, crate::proofs::Moves::follows_then))]
+fn play_step(table: &mut Table, alloc: Global, step: Step, in_order: bool) -> Result<(), PlayFault>
+    ensures follows { OnOk result (Follows table.old table.new) }
+    ensures liars { result ≢ Err faults.Liars }
+    ensures two { (seed : ℕ) → result ≢ Err (faults.TwoAnswers seed) }
+{
     let mut values = table.values(alloc, step)?;
     values.truncate(usize::from(MOST_MEMBERS));
     let stage = Stage {
@@ -45,13 +52,18 @@ fn play_step(
 }
 
 /// Brings the statements of this kind to the receiver, in the order of its broadcasts.
+#[tactic(auto, using(crate::proofs::Moves::none_followed, crate::proofs::Moves::follows_then))]
 fn bring_all(
     table: &mut Table,
     alloc: Global,
     stage: &Stage<'_>,
     kind: Kind,
     to: u8,
-) -> Result<(), PlayFault> {
+) -> Result<(), PlayFault>
+    ensures follows { OnOk result (Follows table.old table.new) }
+    ensures liars { result ≢ Err faults.Liars }
+    ensures two { (seed : ℕ) → result ≢ Err (faults.TwoAnswers seed) }
+{
     let order = strategy::order(alloc, table.size(), stage.step.step(), stage.values, to)?;
     for origin in &order {
         match stage.statement(kind, *origin) {
@@ -64,13 +76,18 @@ fn bring_all(
 }
 
 /// Brings the Initial of this origin to the receiver.
+#[tactic(auto, using(crate::proofs::Moves::none_followed, crate::proofs::Moves::follows_then))]
 fn bring_initial(
     table: &mut Table,
     alloc: Global,
     stage: &Stage<'_>,
     origin: u8,
     to: u8,
-) -> Result<(), PlayFault> {
+) -> Result<(), PlayFault>
+    ensures follows { OnOk result (Follows table.old table.new) }
+    ensures liars { result ≢ Err faults.Liars }
+    ensures two { (seed : ℕ) → result ≢ Err (faults.TwoAnswers seed) }
+{
     let Some(initial) = stage.statement(Kind::Initial, origin) else {
         return Ok(());
     };
@@ -86,13 +103,18 @@ fn bring_initial(
 /// Brings the Echos or the Readys of the origin's broadcast to the receiver: all of them; if links
 /// keep their order, those of the liars and as many others as make the next statement or the
 /// acceptance due, by the shortest ways.
+#[tactic(auto, using(crate::proofs::Moves::none_followed, crate::proofs::Moves::follows_then))]
 fn bring(
     table: &mut Table,
     alloc: Global,
     stage: &Stage<'_>,
     statement: &Statement,
     to: u8,
-) -> Result<(), PlayFault> {
+) -> Result<(), PlayFault>
+    ensures follows { OnOk result (Follows table.old table.new) }
+    ensures liars { result ≢ Err faults.Liars }
+    ensures two { (seed : ℕ) → result ≢ Err (faults.TwoAnswers seed) }
+{
     let ways = ways(table, alloc, statement, to)?;
     let mut came = usize::from(table.size().n()).saturating_sub(ways.len());
     if stage.in_order {
@@ -148,7 +170,12 @@ fn ways(
 }
 
 /// Lets each liar tell the receiver the statement.
-fn tell(table: &mut Table, statement: &Statement, to: u8) -> Result<(), PlayFault> {
+#[tactic(auto, using(crate::proofs::Moves::none_followed, crate::proofs::Moves::follows_then))]
+fn tell(table: &mut Table, statement: &Statement, to: u8) -> Result<(), PlayFault>
+    ensures follows { OnOk result (Follows table.old table.new) }
+    ensures liars { result ≢ Err faults.Liars }
+    ensures two { (seed : ℕ) → result ≢ Err (faults.TwoAnswers seed) }
+{
     for liar in table.correct()..table.size().n() {
         table.lie(liar, to, statement)?;
     }
@@ -165,7 +192,12 @@ fn enough(size: Size, kind: Kind) -> u8 {
 }
 
 /// Delivers the statement from this sender: alone, or all of the queue up to it.
-fn deliver_to(table: &mut Table, way: Way, to: u8, in_order: bool) -> Result<(), PlayFault> {
+#[tactic(auto, using(crate::proofs::Moves::none_followed, crate::proofs::Moves::follows_then))]
+fn deliver_to(table: &mut Table, way: Way, to: u8, in_order: bool) -> Result<(), PlayFault>
+    ensures follows { OnOk result (Follows table.old table.new) }
+    ensures liars { result ≢ Err faults.Liars }
+    ensures two { (seed : ℕ) → result ≢ Err (faults.TwoAnswers seed) }
+{
     if !in_order {
         table.deliver(way.from, to, way.place)?;
         return Ok(());
@@ -186,7 +218,12 @@ struct Way {
 }
 
 /// Delivers all that is on the links before the Initials of the step.
-fn drain_before(table: &mut Table, step: Step) -> Result<(), PlayFault> {
+#[tactic(auto, using(crate::proofs::Moves::none_followed, crate::proofs::Moves::follows_then))]
+fn drain_before(table: &mut Table, step: Step) -> Result<(), PlayFault>
+    ensures follows { OnOk result (Follows table.old table.new) }
+    ensures liars { result ≢ Err faults.Liars }
+    ensures two { (seed : ℕ) → result ≢ Err (faults.TwoAnswers seed) }
+{
     for _ in 0..u64::MAX {
         if !drain_all(table, step)? {
             return Ok(());
@@ -196,7 +233,12 @@ fn drain_before(table: &mut Table, step: Step) -> Result<(), PlayFault> {
 }
 
 /// Delivers once around what is on the links before the Initials of the step.
-fn drain_all(table: &mut Table, step: Step) -> Result<bool, PlayFault> {
+#[tactic(auto, using(crate::proofs::Moves::none_followed, crate::proofs::Moves::follows_then))]
+fn drain_all(table: &mut Table, step: Step) -> Result<bool, PlayFault>
+    ensures follows { OnOk result (Follows table.old table.new) }
+    ensures liars { result ≢ Err faults.Liars }
+    ensures two { (seed : ℕ) → result ≢ Err (faults.TwoAnswers seed) }
+{
     let mut came = false;
     for from in 0..table.correct() {
         for to in 0..table.correct() {
@@ -208,7 +250,12 @@ fn drain_all(table: &mut Table, step: Step) -> Result<bool, PlayFault> {
 
 /// Delivers what is on the link before its sender's Initial of the step. Returns `true` if there
 /// was something.
-fn drain(table: &mut Table, from: u8, to: u8, step: Step) -> Result<bool, PlayFault> {
+#[tactic(auto, using(crate::proofs::Moves::none_followed, crate::proofs::Moves::follows_then))]
+fn drain(table: &mut Table, from: u8, to: u8, step: Step) -> Result<bool, PlayFault>
+    ensures follows { OnOk result (Follows table.old table.new) }
+    ensures liars { result ≢ Err faults.Liars }
+    ensures two { (seed : ℕ) → result ≢ Err (faults.TwoAnswers seed) }
+{
     let mut came = false;
     for _ in 0..table.links().queue(from, to).len() {
         match table.links().queue(from, to).first() {

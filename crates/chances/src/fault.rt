@@ -17,6 +17,9 @@ pub enum PlayFault {
     /// Two correct members decided differently, in the run of this seed.
     #[error("two answers at seed {0}")]
     TwoAnswers(u64),
+    /// Deliveries ended before all correct members had decided, and links still had something.
+    #[error("unfinished")]
+    Unfinished,
     /// A core refused an event.
     #[error("core {0}")]
     Core(CoreFault),

@@ -1,5 +1,9 @@
 //! Deliveries in a drawn order, each link in its own.
 
+ghost use Rattle.std.specs.Prelude.{ℕ, ◌≢◌, Err, OnOk};
+ghost use Rattle.chances.specs.Tables.{Follows};
+ghost use Rattle.chances.specs.declared.fault.PlayFault.TheVariants as faults;
+
 use crate::fault::PlayFault;
 use crate::steps::{STEPS, Step};
 use crate::table::{Table, seed_bytes};
@@ -12,7 +16,12 @@ const DRAWS: u32 = 64;
 
 /// Delivers in a drawn order until each correct member has decided, or nothing is left. The liars
 /// speak of a step as soon as each correct member has said its Initial of it.
-pub fn deliver_drawn(table: &mut Table, alloc: Global, seed: u64) -> Result<(), PlayFault> {
+#[tactic(auto, using(crate::proofs::Moves::none_followed, crate::proofs::Moves::follows_then))]
+pub fn deliver_drawn(table: &mut Table, alloc: Global, seed: u64) -> Result<(), PlayFault>
+    ensures follows { OnOk result (Follows table.old table.new) }
+    ensures liars { result ≢ Err faults.Liars }
+    ensures two { (other : ℕ) → result ≢ Err (faults.TwoAnswers other) }
+{
     let mut draw = ChaChaTosser::from_seed(seed_bytes(seed), 1);
     let mut next = Step(0);
     for _ in 0..u64::MAX {
@@ -32,7 +41,12 @@ pub fn deliver_drawn(table: &mut Table, alloc: Global, seed: u64) -> Result<(), 
 }
 
 /// Lets each liar say its Initial of the step, and the Echo and the Ready of each broadcast of it.
-fn lie_all(table: &mut Table, alloc: Global, step: Step) -> Result<(), PlayFault> {
+#[tactic(auto, using(crate::proofs::Moves::none_followed, crate::proofs::Moves::follows_then))]
+fn lie_all(table: &mut Table, alloc: Global, step: Step) -> Result<(), PlayFault>
+    ensures follows { OnOk result (Follows table.old table.new) }
+    ensures liars { result ≢ Err faults.Liars }
+    ensures two { (seed : ℕ) → result ≢ Err (faults.TwoAnswers seed) }
+{
     let values = table.values(alloc, step)?;
     for liar in table.correct()..table.size().n() {
         let Some(Some(value)) = values.get(usize::from(liar)) else {
@@ -47,12 +61,12 @@ fn lie_all(table: &mut Table, alloc: Global, step: Step) -> Result<(), PlayFault
 }
 
 /// Lets a liar say the Echo and the Ready of each broadcast of the step.
-fn relay(
-    table: &mut Table,
-    step: Step,
-    values: &[Option<Value>],
-    liar: u8,
-) -> Result<(), PlayFault> {
+#[tactic(auto, using(crate::proofs::Moves::none_followed, crate::proofs::Moves::follows_then))]
+fn relay(table: &mut Table, step: Step, values: &[Option<Value>], liar: u8) -> Result<(), PlayFault>
+    ensures follows { OnOk result (Follows table.old table.new) }
+    ensures liars { result ≢ Err faults.Liars }
+    ensures two { (seed : ℕ) → result ≢ Err (faults.TwoAnswers seed) }
+{
     for (origin, value) in values.iter().take(64).enumerate() {
         let Some(value) = value else { continue };
         for kind in [Kind::Echo, Kind::Ready] {
