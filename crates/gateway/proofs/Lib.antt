@@ -4,3 +4,4 @@ mod Items
 mod Keeping
 mod Reaching
 mod Counting
+mod Words

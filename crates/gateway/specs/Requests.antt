@@ -18,9 +18,9 @@ use Rattle.gateway.specs.Routes.{IsRoute}
 use Rattle.gateway.specs.Scopes.{question_count}
 use Rattle.gateway.specs.declared.scopes.Scope.{Scope}
 
--- the position that is named, if the words name one
+-- the position that the words name; there is none only if they name none
 abbrev pub IsNamedAfter : List ℕ → List ℕ → Option Position → Type 0
-IsNamedAfter query last None = Unit {0}
+IsNamedAfter query last None = (at : Position) → IsAfter query last at → ⊥
 IsNamedAfter query last (Some at) = IsAfter query last at
 
 -- a request that only reads asks for this
@@ -77,54 +77,82 @@ pub record IsTask (policy : Policy) (scope : Scope) (request : Request) (done : 
   pub route : IsRoute request.path.now at
   pub asks : AsksFor request.method policy scope at request done
 
--- no such question
-abbrev pub IsMissing : Scope → Route → Type 0
-IsMissing scope (route.Question question) = question_count scope ≤ question
-IsMissing scope (route.Transcript question) = question_count scope ≤ question
-IsMissing scope route.Page = ⊥
-IsMissing scope route.Health = ⊥
-IsMissing scope route.Ready = ⊥
-IsMissing scope route.Metrics = ⊥
-IsMissing scope route.Members = ⊥
-IsMissing scope route.Questions = ⊥
-IsMissing scope route.Decisions = ⊥
+-- why a request that only reads is refused: there is no such question, or else the query is none of this route
+abbrev pub IsReadRefused : Scope → Route → Request → Refusal → Type 0
+IsReadRefused scope (route.Question question) request why =
+    ((why ≡ refusal.Question) × (question_count scope ≤ question))
+    ⊎ ((why ≡ refusal.Query) × (question < question_count scope) × ((wait : ℕ) → IsWait request.query.now wait → ⊥))
+IsReadRefused scope (route.Transcript question) request why = (why ≡ refusal.Question) × (question_count scope ≤ question)
+IsReadRefused scope route.Questions request why =
+    (why ≡ refusal.Query) × ((from to : ℕ) → IsRange (question_count scope) request.query.now from to → ⊥)
+IsReadRefused scope route.Page request why = ⊥
+IsReadRefused scope route.Health request why = ⊥
+IsReadRefused scope route.Ready request why = ⊥
+IsReadRefused scope route.Metrics request why = ⊥
+IsReadRefused scope route.Members request why = ⊥
+IsReadRefused scope route.Decisions request why = ⊥
 
--- nothing is proposed there
-abbrev pub IsNoQuestion : Route → Type 0
-IsNoQuestion at = (question : ℕ) → at ≡ route.Question question → ⊥
+-- all of a proposal but its body is right
+pub record IsPlaced (policy : Policy) (scope : Scope) (question : ℕ) (request : Request) : Type 0 where
+  pub may : MayPropose policy request
+  pub exists : question < question_count scope
+  pub wait : ℕ
+  pub time : IsWait request.query.now wait
 
--- the query is none of this route
-abbrev pub IsBadQuery : Scope → Route → List ℕ → Type 0
-IsBadQuery scope at query =
-    ((at ≡ route.Questions) × ((from to : ℕ) → IsRange (question_count scope) query from to → ⊥))
-    ⊎ ((question : ℕ) × (at ≡ route.Question question) × ((wait : ℕ) → IsWait query wait → ⊥))
+-- why a proposal on a question is refused: the first that applies
+abbrev pub IsProposalRefused : Policy → Scope → ℕ → Request → Refusal → Type 0
+IsProposalRefused policy scope question request refusal.Closed = TakesProposals policy → ⊥
+IsProposalRefused policy scope question request refusal.Origin =
+    TakesProposals policy × (IsOwnOrigin request.host.now request.origin.now → ⊥)
+IsProposalRefused policy scope question request refusal.Type =
+    TakesProposals policy × IsOwnOrigin request.host.now request.origin.now × (IsJsonType request.content.now → ⊥)
+IsProposalRefused policy scope question request refusal.Token =
+    TakesProposals policy × IsOwnOrigin request.host.now request.origin.now × IsJsonType request.content.now
+    × (ShowsToken policy.token.now request.authorization.now → ⊥)
+IsProposalRefused policy scope question request refusal.Question = MayPropose policy request × (question_count scope ≤ question)
+IsProposalRefused policy scope question request refusal.Query =
+    MayPropose policy request × (question < question_count scope) × ((wait : ℕ) → IsWait request.query.now wait → ⊥)
+IsProposalRefused policy scope question request refusal.Body =
+    IsPlaced policy scope question request × ((bit : Bool) → IsMotion request.body.now bit → ⊥)
+IsProposalRefused policy scope question request refusal.Memory = IsPlaced policy scope question request
+IsProposalRefused policy scope question request refusal.Host = ⊥
+IsProposalRefused policy scope question request refusal.Path = ⊥
+IsProposalRefused policy scope question request refusal.Method = ⊥
+IsProposalRefused policy scope question request refusal.Past = ⊥
+IsProposalRefused policy scope question request refusal.Busy = ⊥
+IsProposalRefused policy scope question request refusal.Silent = ⊥
+IsProposalRefused policy scope question request refusal.Undecided = ⊥
+IsProposalRefused policy scope question request refusal.Thin = ⊥
 
--- why a request at this route is refused
-abbrev pub IsRefusedAt : Policy → Scope → Route → Request → Refusal → Type 0
-IsRefusedAt policy scope at request refusal.Host = ⊥
-IsRefusedAt policy scope at request refusal.Path = ⊥
-IsRefusedAt policy scope at request refusal.Method = (request.method ≡ method.Other) ⊎ ((request.method ≡ method.Post) × IsNoQuestion at)
-IsRefusedAt policy scope at request refusal.Question = IsMissing scope at
-IsRefusedAt policy scope at request refusal.Query = IsBadQuery scope at request.query.now
-IsRefusedAt policy scope at request refusal.Closed = (request.method ≡ method.Post) × (TakesProposals policy → ⊥)
-IsRefusedAt policy scope at request refusal.Origin = (request.method ≡ method.Post) × (IsOwnOrigin request.host.now request.origin.now → ⊥)
-IsRefusedAt policy scope at request refusal.Type = (request.method ≡ method.Post) × (IsJsonType request.content.now → ⊥)
-IsRefusedAt policy scope at request refusal.Token =
-    (request.method ≡ method.Post) × (ShowsToken policy.token.now request.authorization.now → ⊥)
-IsRefusedAt policy scope at request refusal.Body = (request.method ≡ method.Post) × ((bit : Bool) → IsMotion request.body.now bit → ⊥)
-IsRefusedAt policy scope at request refusal.Memory = request.method ≡ method.Post
-IsRefusedAt policy scope at request refusal.Past = ⊥
-IsRefusedAt policy scope at request refusal.Busy = ⊥
-IsRefusedAt policy scope at request refusal.Silent = ⊥
-IsRefusedAt policy scope at request refusal.Undecided = ⊥
-IsRefusedAt policy scope at request refusal.Thin = ⊥
+-- why a request to change something is refused: one may only propose, on a question
+abbrev pub IsChangeRefused : Policy → Scope → Route → Request → Refusal → Type 0
+IsChangeRefused policy scope (route.Question question) request why = IsProposalRefused policy scope question request why
+IsChangeRefused policy scope (route.Transcript question) request why = why ≡ refusal.Method
+IsChangeRefused policy scope route.Page request why = why ≡ refusal.Method
+IsChangeRefused policy scope route.Health request why = why ≡ refusal.Method
+IsChangeRefused policy scope route.Ready request why = why ≡ refusal.Method
+IsChangeRefused policy scope route.Metrics request why = why ≡ refusal.Method
+IsChangeRefused policy scope route.Members request why = why ≡ refusal.Method
+IsChangeRefused policy scope route.Questions request why = why ≡ refusal.Method
+IsChangeRefused policy scope route.Decisions request why = why ≡ refusal.Method
 
--- why a request is refused
+-- why a request of this method is refused at this route
+abbrev pub IsRefusedAt : Method → Policy → Scope → Route → Request → Refusal → Type 0
+IsRefusedAt method.Get policy scope at request why = IsReadRefused scope at request why
+IsRefusedAt method.Post policy scope at request why = IsChangeRefused policy scope at request why
+IsRefusedAt method.Other policy scope at request why = why ≡ refusal.Method
+
+-- why a request is refused: the first that applies of its host, its path, and what it asks for there
 abbrev pub IsRefused : Policy → Scope → Request → Refusal → Type 0
 IsRefused policy scope request why =
     ((why ≡ refusal.Host) × (IsOwnHost policy request.host.now → ⊥))
-    ⊎ (((why ≡ refusal.Path) × ((at : Route) → IsRoute request.path.now at → ⊥))
-    ⊎ ((at : Route) × IsRoute request.path.now at × IsRefusedAt policy scope at request why))
+    ⊎ (((why ≡ refusal.Path) × IsOwnHost policy request.host.now × ((at : Route) → IsRoute request.path.now at → ⊥))
+    ⊎ ((at : Route) × IsOwnHost policy request.host.now × IsRoute request.path.now at
+    × IsRefusedAt request.method policy scope at request why))
+
+-- the body has no bit, or memory to read it was refused
+abbrev pub IsBodyRefused : List ℕ → Refusal → Type 0
+IsBodyRefused body why = ((why ≡ refusal.Body) × ((bit : Bool) → IsMotion body bit → ⊥)) ⊎ (why ≡ refusal.Memory)
 
 -- the status of HTTP for a refusal, and its word
 abbrev pub status_of : Refusal → ℕ

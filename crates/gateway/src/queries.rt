@@ -113,7 +113,7 @@ fn both_words(rest: &[u8]) -> Option<(&[u8], &[u8])>
 }
 
 /// Returns the two numbers that the words write.
-fn both_numbers(first: &[u8], second: &[u8]) -> Option<(u64, u64)>
+pub(crate) fn both_numbers(first: &[u8], second: &[u8]) -> Option<(u64, u64)>
     ensures some { IfSome result
         (λ found. IsBelow 64 first.now found.0 × IsBelow 64 second.now found.1) }
     ensures exact { (from to : ℕ) → IsBelow 64 first.now from → IsBelow 64 second.now to →

@@ -1,10 +1,13 @@
 //! The lines of a desk, as the gateway reads them: begin at `reply_of`.
 
-ghost use Rattle.std.specs.Prelude.{IfSome, IsTrue};
-ghost use Rattle.gateway.specs.Replies.{AreLinks, AreQuestionAndBit, AreTwo, Says};
-ghost use Rattle.gateway.specs.declared.replies.Reply.TheVariants.{Have};
+ghost use Rattle.std.specs.Prelude.{◌≡◌, ◌∷◌, ◌++◌, ◌↔◌, ℕ, Bool, List, IfSome, IsNone, IsTrue, Some};
+ghost use Rattle.numerals.specs.Numbers.{IsBelow};
+ghost use Rattle.gateway.specs.Motions.{bit_text};
+ghost use Rattle.gateway.specs.Replies.{AreLinks, AreQuestionAndBit, AreTwo, Says, Tells, TellsNoNumbers, TellsNoWord};
+ghost use Rattle.gateway.specs.declared.replies.Reply.TheVariants.{Decided, Epochs, Have, Links, Spent, Stopped, Taken, Told, Up};
 
 use crate::motions::bit_in;
+use crate::queries::both_numbers;
 use numerals::{behind, is, number, split_at_space};
 
 /// A line of a desk.
@@ -56,15 +59,37 @@ pub enum Reply {
 pub fn reply_of(line: &[u8]) -> Reply
     ensures { Says line.now result }
 {
-    match decided_reply(line) {
+    match numbered_reply(line) {
         Some(reply) => reply,
-        None => other_reply(line),
+        None => match short_reply(line) {
+            Some(reply) => reply,
+            None => Reply::Other,
+        },
+    }
+}
+
+/// Returns the reply of a line that has a decision for a follower, counts, links or epochs.
+fn numbered_reply(line: &[u8]) -> Option<Reply>
+    ensures some { IfSome result (Tells line.now) }
+    ensures none { IsNone result → TellsNoNumbers line.now }
+{
+    match decided_reply(line) {
+        Some(reply) => Some(reply),
+        None => match up_reply(line) {
+            Some(reply) => Some(reply),
+            None => match links_reply(line) {
+                Some(reply) => Some(reply),
+                None => epochs_reply(line),
+            },
+        },
     }
 }
 
 /// Returns the decision that the line tells a follower.
 fn decided_reply(line: &[u8]) -> Option<Reply>
-    ensures { IfSome result (Says line.now) }
+    ensures some { IfSome result (Tells line.now) }
+    ensures none { IsNone result → (question : ℕ) (bit : Bool) →
+        Tells line.now (Decided question bit) → ⊥ }
 {
     match behind(line, "DECIDED ") {
         Some(words) => match question_and_bit(words) {
@@ -77,26 +102,37 @@ fn decided_reply(line: &[u8]) -> Option<Reply>
 
 /// Returns the question and the bit that the words write.
 fn question_and_bit(words: &[u8]) -> Option<(u64, bool)>
-    ensures { IfSome result (λ found. AreQuestionAndBit words.now found.0 found.1) }
+    ensures some { IfSome result (λ found. AreQuestionAndBit words.now found.0 found.1) }
+    ensures exact { (question : ℕ) (bit : Bool) → AreQuestionAndBit words.now question bit →
+        result ≡ Some (question, bit) }
 {
-    let (digits, bit) = split_at_space(words)?;
-    let question = number(digits)?;
-    Some((question, bit_in(bit)?))
+    match split_at_space(words) {
+        Some((digits, word)) => number_and_bit(digits, word),
+        None => None,
+    }
 }
 
-/// Returns what a line of a desk says that tells no decision.
-fn other_reply(line: &[u8]) -> Reply
-    ensures { Says line.now result }
+/// Returns the number that the digits write, and the bit that the word writes.
+fn number_and_bit(digits: &[u8], word: &[u8]) -> Option<(u64, bool)>
+    ensures some { IfSome result
+        (λ found. IsBelow 64 digits.now found.0 × (word.now ≡ bit_text found.1)) }
+    ensures exact { (question : ℕ) (bit : Bool) → IsBelow 64 digits.now question →
+        word.now ≡ bit_text bit → result ≡ Some (question, bit) }
 {
-    match up_reply(line) {
-        Some(reply) => reply,
-        None => counted_reply(line),
+    match number(digits) {
+        Some(question) => match bit_in(word) {
+            Some(bit) => Some((question, bit)),
+            None => None,
+        },
+        None => None,
     }
 }
 
 /// Returns the counts that the line tells.
 fn up_reply(line: &[u8]) -> Option<Reply>
-    ensures { IfSome result (Says line.now) }
+    ensures some { IfSome result (Tells line.now) }
+    ensures none { IsNone result → (statements decided : ℕ) →
+        Tells line.now (Up statements decided) → ⊥ }
 {
     match behind(line, "UP ") {
         Some(words) => match two_numbers(words) {
@@ -110,22 +146,11 @@ fn up_reply(line: &[u8]) -> Option<Reply>
     }
 }
 
-/// Returns what a line of a desk says that tells no decision and no counts.
-fn counted_reply(line: &[u8]) -> Reply
-    ensures { Says line.now result }
-{
-    match links_reply(line) {
-        Some(reply) => reply,
-        None => match epochs_reply(line) {
-            Some(reply) => reply,
-            None => short_reply(line),
-        },
-    }
-}
-
 /// Returns the links that the line tells.
 fn links_reply(line: &[u8]) -> Option<Reply>
-    ensures { IfSome result (Says line.now) }
+    ensures some { IfSome result (Tells line.now) }
+    ensures none { IsNone result → (coming going : ℕ) →
+        Tells line.now (Links coming going) → ⊥ }
 {
     match behind(line, "LINKS ") {
         Some(words) => match two_links(words) {
@@ -138,17 +163,36 @@ fn links_reply(line: &[u8]) -> Option<Reply>
 
 /// Returns the first two of the numbers that the words write.
 fn two_links(words: &[u8]) -> Option<(u64, u64)>
-    ensures { IfSome result (λ found. AreLinks words.now found.0 found.1) }
+    ensures some { IfSome result (λ found. AreLinks words.now found.0 found.1) }
+    ensures exact { (coming going : ℕ) → AreLinks words.now coming going →
+        result ≡ Some (coming, going) }
 {
-    let (first, rest) = split_at_space(words)?;
-    let (second, _rest) = split_at_space(rest)?;
-    let first = number(first)?;
-    Some((first, number(second)?))
+    match split_at_space(words) {
+        Some((first, rest)) => links_from(first, rest),
+        None => None,
+    }
+}
+
+/// Returns the number that the digits write, and the first of those that the rest writes.
+fn links_from(first: &[u8], rest: &[u8]) -> Option<(u64, u64)>
+    ensures some { IfSome result (λ found. (second : List ℕ) × (more : List ℕ)
+        × (rest.now ≡ second ++ 32 ∷ more) × IsBelow 64 first.now found.0
+        × IsBelow 64 second found.1) }
+    ensures exact { (coming going : ℕ) (second more : List ℕ) →
+        rest.now ≡ second ++ 32 ∷ more → IsBelow 64 first.now coming →
+        IsBelow 64 second going → result ≡ Some (coming, going) }
+{
+    match split_at_space(rest) {
+        Some((second, _more)) => both_numbers(first, second),
+        None => None,
+    }
 }
 
 /// Returns the epochs that the line tells.
 fn epochs_reply(line: &[u8]) -> Option<Reply>
-    ensures { IfSome result (Says line.now) }
+    ensures some { IfSome result (Tells line.now) }
+    ensures none { IsNone result → (closed newest : ℕ) →
+        Tells line.now (Epochs closed newest) → ⊥ }
 {
     match behind(line, "EPOCHS ") {
         Some(words) => match two_numbers(words) {
@@ -161,26 +205,31 @@ fn epochs_reply(line: &[u8]) -> Option<Reply>
 
 /// Returns the two numbers that the words write.
 fn two_numbers(words: &[u8]) -> Option<(u64, u64)>
-    ensures { IfSome result (λ found. AreTwo words.now found.0 found.1) }
+    ensures some { IfSome result (λ found. AreTwo words.now found.0 found.1) }
+    ensures exact { (first second : ℕ) → AreTwo words.now first second →
+        result ≡ Some (first, second) }
 {
-    let (first, second) = split_at_space(words)?;
-    let first = number(first)?;
-    Some((first, number(second)?))
+    match split_at_space(words) {
+        Some((first, second)) => both_numbers(first, second),
+        None => None,
+    }
 }
 
-/// Returns what a line says that has no number of questions, statements, links or epochs.
-fn short_reply(line: &[u8]) -> Reply
-    ensures { Says line.now result }
+/// Returns the reply of a line that has no number of questions, statements, links or epochs.
+fn short_reply(line: &[u8]) -> Option<Reply>
+    ensures some { IfSome result (Tells line.now) }
+    ensures none { IsNone result → TellsNoWord line.now }
 {
     match told_reply(line) {
-        Some(reply) => reply,
+        Some(reply) => Some(reply),
         None => plain_reply(line),
     }
 }
 
 /// Returns the decision that the line tells to one who asked for the question.
 fn told_reply(line: &[u8]) -> Option<Reply>
-    ensures { IfSome result (Says line.now) }
+    ensures some { IfSome result (Tells line.now) }
+    ensures none { IsNone result → (bit : Bool) → Tells line.now (Told bit) → ⊥ }
 {
     match behind(line, "DECIDED ") {
         Some(word) => match bit_in(word) {
@@ -191,28 +240,30 @@ fn told_reply(line: &[u8]) -> Option<Reply>
     }
 }
 
-/// Returns what a line says that has no number and no bit.
-fn plain_reply(line: &[u8]) -> Reply
-    ensures { Says line.now result }
+/// Returns the reply of a line that has no number and no decision.
+fn plain_reply(line: &[u8]) -> Option<Reply>
+    ensures some { IfSome result (Tells line.now) }
+    ensures taken { IsNone result → Tells line.now Taken → ⊥ }
+    ensures have { IsNone result → Tells line.now Have → ⊥ }
+    ensures spent { IsNone result → Tells line.now Spent → ⊥ }
+    ensures stopped { IsNone result → Tells line.now Stopped → ⊥ }
 {
     if is(line, "OK") {
-        return Reply::Taken;
+        Some(Reply::Taken)
+    } else if is(line, "STOPPED") {
+        Some(Reply::Stopped)
+    } else if is(line, "SPENT") {
+        Some(Reply::Spent)
+    } else if is_had(line) {
+        Some(Reply::Have)
+    } else {
+        None
     }
-    if is(line, "STOPPED") {
-        return Reply::Stopped;
-    }
-    if is(line, "SPENT") {
-        return Reply::Spent;
-    }
-    if is_had(line) {
-        return Reply::Have;
-    }
-    Reply::Other
 }
 
 /// Returns `true` if the line is that of a member that had a proposal.
 fn is_had(line: &[u8]) -> bool
-    ensures { IsTrue result → Says line.now Have }
+    ensures { IsTrue result ↔ Tells line.now Have }
 {
     is(line, "HAVE 0") || is(line, "HAVE 1")
 }

@@ -1,12 +1,9 @@
 //! Requests, and what is to be done for one: begin at `task_of`.
 
-ghost use Rattle.std.specs.Prelude.{◌≡◌, IfErr, IfOk, IfSome, IsNone};
-ghost use Rattle.gateway.specs.declared.guards.Policy.{Policy};
-ghost use Rattle.gateway.specs.declared.routes.Route.{Route};
+ghost use Rattle.std.specs.Prelude.{◌≡◌, ℕ, IfErr, IfOk, IfSome, IsNone};
 ghost use Rattle.gateway.specs.declared.scopes.Scope.{Scope};
 ghost use Rattle.gateway.specs.Motions.{IsMotion};
-ghost use Rattle.gateway.specs.Requests.{AsksFor, IsRead, IsRefused, IsRefusedAt, IsTask, MayPropose, Proposes, status_of, word_of};
-ghost use Rattle.gateway.specs.declared.requests.Method.TheVariants as method;
+ghost use Rattle.gateway.specs.Requests.{AsksFor, IsBodyRefused, IsChangeRefused, IsProposalRefused, IsRead, IsReadRefused, IsRefused, IsRefusedAt, IsTask, MayPropose, Proposes, status_of, word_of};
 ghost use Rattle.gateway.specs.declared.routes.Route.TheVariants as route;
 
 use crate::guards::{
@@ -221,24 +218,20 @@ fn routed_task(
     request: &Request<'_>,
 ) -> Result<Task, Refusal>
     ensures ok { IfOk result (AsksFor request.now.method policy.now scope route request.now) }
-    ensures err { IfErr result (IsRefusedAt policy.now scope route request.now) }
+    ensures err { IfErr result
+        (IsRefusedAt request.now.method policy.now scope route request.now) }
 {
     match request.method {
-        Method::Get => read_task(policy, scope, route, request),
+        Method::Get => read_task(scope, route, request),
         Method::Post => change_task(alloc, policy, scope, route, request),
         Method::Other => Err(Refusal::Method),
     }
 }
 
 /// Returns what a request that only reads asks for.
-fn read_task(
-    policy: &Policy<'_>,
-    scope: Scope,
-    route: Route,
-    request: &Request<'_>,
-) -> Result<Task, Refusal>
+fn read_task(scope: Scope, route: Route, request: &Request<'_>) -> Result<Task, Refusal>
     ensures ok { IfOk result (IsRead scope route request.now) }
-    ensures err { IfErr result (IsRefusedAt policy.now scope route request.now) }
+    ensures err { IfErr result (IsReadRefused scope route request.now) }
 {
     match route {
         Route::Page => Ok(Task::Page),
@@ -246,17 +239,17 @@ fn read_task(
         Route::Ready => Ok(Task::Ready),
         Route::Metrics => Ok(Task::Metrics),
         Route::Members => Ok(Task::Members),
-        Route::Questions => questions_task(policy, scope, request),
+        Route::Questions => questions_task(scope, request),
         Route::Decisions => Ok(Task::Decisions(after_of(request.query, request.last))),
-        Route::Question(question) => question_task(policy, scope, question, request),
-        Route::Transcript(question) => transcript_task(policy, scope, question, request),
+        Route::Question(question) => question_task(scope, question, request),
+        Route::Transcript(question) => transcript_task(scope, question, request),
     }
 }
 
 /// Returns the range of questions that is asked for.
-fn questions_task(policy: &Policy<'_>, scope: Scope, request: &Request<'_>) -> Result<Task, Refusal>
+fn questions_task(scope: Scope, request: &Request<'_>) -> Result<Task, Refusal>
     ensures ok { IfOk result (IsRead scope route.Questions request.now) }
-    ensures err { IfErr result (IsRefusedAt policy.now scope route.Questions request.now) }
+    ensures err { IfErr result (IsReadRefused scope route.Questions request.now) }
 {
     match range_of(scope.questions(), request.query) {
         Some((from, to)) => Ok(Task::Questions { from, to }),
@@ -265,15 +258,9 @@ fn questions_task(policy: &Policy<'_>, scope: Scope, request: &Request<'_>) -> R
 }
 
 /// Returns the question that is asked for.
-fn question_task(
-    policy: &Policy<'_>,
-    scope: Scope,
-    question: u64,
-    request: &Request<'_>,
-) -> Result<Task, Refusal>
+fn question_task(scope: Scope, question: u64, request: &Request<'_>) -> Result<Task, Refusal>
     ensures ok { IfOk result (IsRead scope (route.Question question) request.now) }
-    ensures err { IfErr result
-        (IsRefusedAt policy.now scope (route.Question question) request.now) }
+    ensures err { IfErr result (IsReadRefused scope (route.Question question) request.now) }
 {
     if question >= scope.questions() {
         return Err(Refusal::Question);
@@ -285,15 +272,9 @@ fn question_task(
 }
 
 /// Returns the question whose transcript is asked for.
-fn transcript_task(
-    policy: &Policy<'_>,
-    scope: Scope,
-    question: u64,
-    request: &Request<'_>,
-) -> Result<Task, Refusal>
+fn transcript_task(scope: Scope, question: u64, request: &Request<'_>) -> Result<Task, Refusal>
     ensures ok { IfOk result (IsRead scope (route.Transcript question) request.now) }
-    ensures err { IfErr result
-        (IsRefusedAt policy.now scope (route.Transcript question) request.now) }
+    ensures err { IfErr result (IsReadRefused scope (route.Transcript question) request.now) }
 {
     if question >= scope.questions() {
         return Err(Refusal::Question);
@@ -310,8 +291,7 @@ fn change_task(
     request: &Request<'_>,
 ) -> Result<Task, Refusal>
     ensures ok { IfOk result (Proposes policy.now scope route request.now) }
-    ensures err { request.now.method ≡ method.Post →
-        IfErr result (IsRefusedAt policy.now scope route request.now) }
+    ensures err { IfErr result (IsChangeRefused policy.now scope route request.now) }
 {
     match route {
         Route::Question(question) => proposal_task(alloc, policy, scope, question, request),
@@ -335,8 +315,7 @@ fn proposal_task(
     request: &Request<'_>,
 ) -> Result<Task, Refusal>
     ensures ok { IfOk result (Proposes policy.now scope (route.Question question) request.now) }
-    ensures err { request.now.method ≡ method.Post →
-        IfErr result (IsRefusedAt policy.now scope (route.Question question) request.now) }
+    ensures err { IfErr result (IsProposalRefused policy.now scope question request.now) }
 {
     match refuse_stranger(policy, request) {
         Some(refusal) => Err(refusal),
@@ -347,8 +326,8 @@ fn proposal_task(
 /// Refuses a request that may not propose, whatever it proposes.
 fn refuse_stranger(policy: &Policy<'_>, request: &Request<'_>) -> Option<Refusal>
     ensures none { IsNone result → MayPropose policy.now request.now }
-    ensures some { request.now.method ≡ method.Post → (scope : Scope) (at : Route) →
-        IfSome result (IsRefusedAt policy.now scope at request.now) }
+    ensures some { (scope : Scope) (question : ℕ) →
+        IfSome result (IsProposalRefused policy.now scope question request.now) }
 {
     if !takes_proposals(policy) {
         return Some(Refusal::Closed);
@@ -375,8 +354,7 @@ fn motion_task(
 ) -> Result<Task, Refusal>
     requires { MayPropose policy.now request.now }
     ensures ok { IfOk result (Proposes policy.now scope (route.Question question) request.now) }
-    ensures err { request.now.method ≡ method.Post →
-        IfErr result (IsRefusedAt policy.now scope (route.Question question) request.now) }
+    ensures err { IfErr result (IsProposalRefused policy.now scope question request.now) }
 {
     if question >= scope.questions() {
         return Err(Refusal::Question);
@@ -397,9 +375,7 @@ fn motion_task(
 /// Returns the bit that the body proposes.
 fn bit_task(alloc: Global, request: &Request<'_>) -> Result<bool, Refusal>
     ensures ok { IfOk result (IsMotion request.now.body.now) }
-    ensures err { request.now.method ≡ method.Post →
-        (policy : Policy) (scope : Scope) (at : Route) →
-        IfErr result (IsRefusedAt policy scope at request.now) }
+    ensures err { IfErr result (IsBodyRefused request.now.body.now) }
 {
     match motion_of(alloc, request.body) {
         Ok(Some(bit)) => Ok(bit),

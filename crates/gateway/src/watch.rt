@@ -1,7 +1,7 @@
 //! The words of members on the questions of a cluster or a chain, and the decisions that may be
 //! believed.
 
-ghost use Rattle.std.specs.Prelude.{◌≡◌, ◌<◌, ◌≤◌, ◌+◌, ◌/◌, ◌↔◌, ◌∷◌, ◌++◌, [], ℕ, Bool, List, IfErr, IfOk, IsTrue, IsFalse, OnErr, OnOk, None, drop, false, length, true, slice_get};
+ghost use Rattle.std.specs.Prelude.{◌≡◌, ◌<◌, ◌≤◌, ◌+◌, ◌/◌, ◌↔◌, ◌∷◌, ◌++◌, [], ℕ, Bool, List, IfErr, IfOk, IsTrue, IsFalse, OnErr, OnOk, None, drop, false, length, replicate, true, slice_get};
 ghost use Rattle.client.specs.Readings.{Reads, first_word, size_of};
 ghost use Rattle.gateway.specs.Heads.{IsCommonHead, count_at, moved_heads, next_first};
 ghost use Rattle.gateway.specs.Scopes.{epoch_start, window_length};
@@ -54,8 +54,8 @@ impl Watch {
         Watch::over(alloc, Scope { size, chain: false })
     }
 
-    /// Returns a watch over a chain of clusters of this size, before anybody told anything. Its
-    /// window begins at slot 0, and moves ahead by [`Watch::reach`].
+    /// Returns a watch over a chain of clusters of this size, before anybody told anything. Each
+    /// member is at slot 0. The window begins there, and moves ahead by [`Watch::reach`].
     ///
     /// # Errors
     ///
@@ -65,6 +65,7 @@ impl Watch {
         ensures size { IfOk result (λ watch. watch_size watch ≡ size) }
         ensures chain { IfOk result (λ watch. (watch_scope watch).chain ≡ true) }
         ensures first { IfOk result (λ watch. watch_first watch ≡ 0) }
+        ensures heads { IfOk result (λ watch. watch_heads watch ≡ replicate size.n 0) }
         ensures nothing { IfOk result (λ watch. Watches watch []) }
     {
         Watch::over(alloc, Scope { size, chain: true })
@@ -139,8 +140,8 @@ impl Watch {
 
     /// Takes a decision that a member told. Of each member the first word on a question counts.
     /// Returns `false` if there is no such member, or the question isn't one of the window, and
-    /// then nothing changed.
-    #[tactic(auto, unfolding(crate::specs::Watches::Watches, crate::specs::Watches::watch_first, crate::specs::Watches::watch_scope, crate::specs::Watches::watch_size))]
+    /// then nothing changed. The window and the members' slots stay.
+    #[tactic(auto, unfolding(crate::specs::Watches::Watches, crate::specs::Watches::watch_first, crate::specs::Watches::watch_heads, crate::specs::Watches::watch_scope, crate::specs::Watches::watch_size))]
     pub fn take(&mut self, told: Told) -> bool
         ensures words { IsTrue result → (heard : List Told) → Watches self.old heard →
             Watches self.new (heard ++ told ∷ []) }
@@ -148,6 +149,7 @@ impl Watch {
         ensures size { watch_size self.new ≡ watch_size self.old }
         ensures scope { watch_scope self.new ≡ watch_scope self.old }
         ensures first { watch_first self.new ≡ watch_first self.old }
+        ensures heads { watch_heads self.new ≡ watch_heads self.old }
         ensures taken { (heard : List Told) → Watches self.old heard →
             (IsTrue result ↔ ((told.member < (watch_size self.old).n)
             × IsInWindow self.old told.question)) }
@@ -333,10 +335,11 @@ impl Watch {
     }
 
     /// Returns a watch over this scope, before anybody told anything.
-    #[tactic(auto, unfolding(crate::specs::Watches::Watches, crate::specs::Watches::watch_scope, crate::specs::Watches::watch_first))]
+    #[tactic(auto, unfolding(crate::specs::Watches::Watches, crate::specs::Watches::watch_scope, crate::specs::Watches::watch_first, crate::specs::Watches::watch_heads))]
     fn over(alloc: Global, scope: Scope) -> Result<Watch, AllocError>
         ensures scope { IfOk result (λ watch. watch_scope watch ≡ scope) }
         ensures first { IfOk result (λ watch. watch_first watch ≡ 0) }
+        ensures heads { IfOk result (λ watch. watch_heads watch ≡ replicate scope.size.n 0) }
         ensures nothing { IfOk result (λ watch. Watches watch []) }
     {
         let readings = filled(alloc, scope.size, scope.window_length(), &[])?;

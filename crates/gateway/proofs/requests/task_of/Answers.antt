@@ -6,4 +6,4 @@ returns-then-not-is_own_host-clause-err c =
     inl (refl, λ own. (let no : false ≡ true = c.if-not-is_own_host.ensures.1 own in cc))
 
 pub returns-in-None-clause-err : goal.returns-in-None-clause-err
-returns-in-None-clause-err c = inr (inl (refl, c.in-None.ensures.none refl))
+returns-in-None-clause-err c = inr (inl (refl, c.if-not-is_own_host.ensures.0 refl, c.in-None.ensures.none refl))
