@@ -1,3 +1,5 @@
 pub mod Ranks
 pub mod Served
 pub mod Times
+pub mod Notes
+pub mod Beginnings

@@ -1,8 +1,9 @@
 //! The book of a gateway: a cluster as it is known, and its events.
 
-ghost use Rattle.std.specs.Prelude.{◌≡◌, ◌≤◌, ◌==◌, List, filter, find, not};
+ghost use Rattle.std.specs.Prelude.{◌≡◌, ◌≤◌, ◌<◌, ◌==◌, ◌↔◌, List, [], IsTrue, filter, find, not};
 ghost use Rattle.gateway.specs.Watches.{Watches};
 ghost use Rattle.gateway.specs.declared.watch.Told.{Told};
+ghost use Rattle.portal.specs.Beginnings.{Begins, EndsWith, IsUnproposed};
 
 use crate::hearing::Hearing;
 use crate::notes::{Note, Notes};
@@ -214,9 +215,12 @@ impl Book {
     }
 
     /// Notes that a question is under way if more than t members told a decision of it: one of them
-    /// is correct. What t told, liars may have made up.
+    /// is correct. What t told, liars may have made up. One that was under way, or spent, stays so.
     fn begin_told(&mut self, question: u64, tellers: u8)
-        ensures { tellers ≤ self.old.scope.size.t → self.new ≡ self.old }
+        ensures few { tellers ≤ self.old.scope.size.t → self.new ≡ self.old }
+        ensures begins { self.old.scope.size.t < tellers → IsUnproposed self.old question →
+            Begins self.old question self.new }
+        ensures stays { (IsUnproposed self.old question → ⊥) → self.new ≡ self.old }
     {
         if tellers > self.scope.size.t() {
             self.begin(question);
@@ -473,23 +477,68 @@ impl Book {
         }
     }
 
-    /// Notes that a question of the window is under way.
-    fn begin(&mut self, question: u64) {
-        let note = self.notes.at(question);
-        if note.stage == Stage::Unproposed {
-            self.notes.put(Note {
-                stage: Stage::Proposed,
-                ..note
-            });
-            self.note(Event::Proposed(question));
+    /// Notes that a question of the window is under way, if it wasn't and isn't spent.
+    fn begin(&mut self, question: u64)
+        ensures begins { IsUnproposed self.old question → Begins self.old question self.new }
+        ensures stays { (IsUnproposed self.old question → ⊥) → self.new ≡ self.old }
+    {
+        if self.is_unproposed(question) {
+            self.set_begun_stage(question);
         }
     }
 
+    /// Returns `true` if nothing is known of the question but what t members at most told.
+    fn is_unproposed(&self, question: u64) -> bool
+        ensures { IsTrue result ↔ IsUnproposed self.now question }
+    {
+        let note = self.notes.at(question);
+        matches!(note.stage, Stage::Unproposed)
+    }
+
+    /// Notes that a question is under way.
+    fn set_begun_stage(&mut self, question: u64)
+        ensures { Begins self.old question self.new }
+    {
+        let note = self.notes.at(question);
+        self.notes.put(Note {
+            stage: Stage::Proposed,
+            ..note
+        });
+        self.note(Event::Proposed(question));
+    }
+
     /// Notes an event. If memory for it is refused, followers load everything anew.
-    fn note(&mut self, event: Event) {
+    fn note(&mut self, event: Event)
+        ensures told { EndsWith event self.new.events.items }
+        ensures rest { self.new ≡ record self.old {
+          events = self.new.events;
+          before = self.new.before;
+        } }
+    {
+        self.make_room();
+        self.push_event(event);
+    }
+
+    /// Drops the older half of the events if there are as many as are kept.
+    fn make_room(&mut self)
+        ensures rest { self.new ≡ record self.old {
+          events = self.new.events;
+          before = self.new.before;
+        } }
+    {
         if self.events.len() >= MOST_EVENTS {
             self.drop_older();
         }
+    }
+
+    /// Puts an event behind those that are kept. If memory for it is refused, none is kept.
+    fn push_event(&mut self, event: Event)
+        ensures told { EndsWith event self.new.events.items }
+        ensures rest { self.new ≡ record self.old {
+          events = self.new.events;
+          before = self.new.before;
+        } }
+    {
         if self.events.push(event).is_err() {
             self.drop_events();
             self.before = self.before.saturating_add(1);
@@ -497,7 +546,12 @@ impl Book {
     }
 
     /// Drops the older half of the events; all of them if memory for the others is refused.
-    fn drop_older(&mut self) {
+    fn drop_older(&mut self)
+        ensures rest { self.new ≡ record self.old {
+          events = self.new.events;
+          before = self.new.before;
+        } }
+    {
         let half = self.events.len() / 2;
         match self.events.split_off(half) {
             Ok(later) => {
@@ -509,7 +563,13 @@ impl Book {
     }
 
     /// Drops all events.
-    fn drop_events(&mut self) {
+    fn drop_events(&mut self)
+        ensures none { self.new.events.items ≡ [] }
+        ensures rest { self.new ≡ record self.old {
+          events = self.new.events;
+          before = self.new.before;
+        } }
+    {
         self.before = self.last();
         self.events = Vec::new(self.alloc);
     }

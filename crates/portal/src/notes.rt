@@ -1,5 +1,8 @@
 //! Notes on questions: stages, proposals and ends, beside what members told.
 
+ghost use Rattle.std.specs.Prelude.{◌≡◌, ◌<◌, ◌%◌, ℕ, Some, length, slice_set};
+ghost use Rattle.portal.specs.Notes.{ShareAPlace, new_note, note_in, note_on};
+
 use gateway::Stage;
 use std::alloc::{AllocError, Global};
 
@@ -21,13 +24,14 @@ pub(crate) struct Note {
 #[derive(Drop)]
 pub(crate) struct Notes {
     ring: Vec<Note>,
+    ghost some: { 0 < length ring.items },
 }
 
 impl Notes {
-    /// Returns notes on so many questions, of which nothing is known.
+    /// Returns notes on so many questions, at least one, of which nothing is known.
     pub(crate) fn new(alloc: Global, count: usize) -> Result<Notes, AllocError> {
         let mut ring = Vec::new(alloc);
-        ring.resize(count, new_note(0))?;
+        ring.resize(count.max(1), new_note(0))?;
         Ok(Notes { ring })
     }
 
@@ -41,30 +45,60 @@ impl Notes {
     }
 
     /// Returns the note on a question.
-    pub(crate) fn at(&self, question: u64) -> Note {
+    pub(crate) fn at(&self, question: u64) -> Note
+        ensures value { result ≡ note_on self.now.ring.items question }
+        ensures question { result.question ≡ question }
+    {
         match self.ring.get(self.place_of(question)) {
-            Some(note) if note.question == question => *note,
-            _ => new_note(question),
+            Some(note) => kept_note(*note, question),
+            None => new_note(question),
         }
     }
 
-    /// Puts a note in the place of its question.
-    pub(crate) fn put(&mut self, note: Note) {
+    /// Puts a note in the place of its question. Those in other places stay.
+    pub(crate) fn put(&mut self, note: Note)
+        ensures kept { note_on self.new.ring.items note.question ≡ note }
+        ensures others { (other : ℕ) →
+            (ShareAPlace self.old.ring.items note.question other → ⊥) →
+            note_on self.new.ring.items other ≡ note_on self.old.ring.items other }
+    {
         let place = self.place_of(note.question);
-        if let Some(kept) = self.ring.get_mut(place) {
-            *kept = note;
-        }
+        set_note(&mut self.ring, place, note);
     }
 
     /// Returns the place of a question in the ring.
-    fn place_of(&self, question: u64) -> usize {
-        let count = (self.ring.len() as u64).max(1);
+    fn place_of(&self, question: u64) -> usize
+        ensures place { result ≡ question % length self.now.ring.items }
+        ensures within { result < length self.now.ring.items }
+    {
+        let count = self.ring.len() as u64;
         (question % count) as usize
     }
 }
 
+/// Puts a note in this place.
+fn set_note(ring: &mut Vec<Note>, place: usize, note: Note)
+    requires { place < length ring.old.items }
+    ensures { ring.new.items ≡ slice_set ring.old.items place note }
+{
+    ring[place] = note;
+}
+
+/// Returns the note that is kept, if it is on this question, or one of which nothing is known.
+fn kept_note(note: Note, question: u64) -> Note
+    ensures { result ≡ note_in (Some note) question }
+{
+    if note.question == question {
+        note
+    } else {
+        new_note(question)
+    }
+}
+
 /// Returns the note on a question of which nothing is known.
-fn new_note(question: u64) -> Note {
+fn new_note(question: u64) -> Note
+    ensures { result ≡ new_note question }
+{
     Note {
         question,
         stage: Stage::Unproposed,
