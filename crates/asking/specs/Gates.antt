@@ -3,9 +3,12 @@ use Rattle.std.specs.Prelude.{ℕ, ◌≡◌, ◌<◌, ◌≤◌, ◌⊎◌, ◌
 use Rattle.std.specs.List.{All}
 use Rattle.std.specs.declared.net.socket_addr.SocketAddr.{SocketAddr}
 use Rattle.portal.specs.declared.serving.Opening.{Opening}
+use Rattle.portal.specs.declared.serving.OpeningFault.{OpeningFault}
+use Rattle.portal.specs.declared.serving.OpeningFault.TheVariants as unopened
 use Rattle.machine.specs.declared.fault.RunFault.TheVariants as ends_of_run
 use Rattle.settings.specs.declared.client.ClientSettings.{ClientSettings}
 use Rattle.asking.specs.Sockets.{AreSocketsOf}
+use Rattle.troubles.specs.Faults.{IsFileFault}
 use Rattle.troubles.specs.declared.fault.Fault.{Fault}
 use Rattle.troubles.specs.declared.fault.Fault.TheVariants as ends
 
@@ -38,6 +41,8 @@ pub record Opens (client : ClientSettings) (address : SocketAddr) (secret : List
   pub listen : opening.listen ≡ address
   pub token : opening.token.items ≡ secret
 
--- why one doesn't start
-abbrev pub IsUnopened : Fault → Type 0
-IsUnopened fault = (fault ≡ ends.Memory) ⊎ (fault ≡ ends.Run ends_of_run.Listen)
+-- why one doesn't start that has this fault: its address can't be listened at, or memory or a thread was refused
+abbrev pub IsUnopened : OpeningFault → Fault → Type 0
+IsUnopened (unopened.Listen error) given = IsFileFault (ends.Run ends_of_run.Listen) error given
+IsUnopened unopened.Memory given = given ≡ ends.Memory
+IsUnopened unopened.Thread given = given ≡ ends.Memory

@@ -1,15 +1,22 @@
 //! The commands `propose`, `ask`, `status` and `transcript`: a line to the desk of a member that
 //! runs.
 
+ghost use Rattle.std.specs.Prelude.{ℕ, Bool, List, [], ◌≡◌, ◌∷◌, ◌++◌, ◌<◌, ◌≤◌, ◌↔◌, IfErr, IfOk, IfSome, IsSomeAnd, IsTrue, false, slice_get, true};
+ghost use Rattle.std.specs.Io.KnownBytes.{Appends};
+ghost use Rattle.commands.specs.Replies.{IsReplyLine, SaysSame};
+ghost use Rattle.commands.specs.Talks.{HasReadyStatus, HasStatus};
+ghost use Rattle.commands.specs.TextLines.{lines_in};
+ghost use Rattle.commands.specs.declared.fault.TalkFault.TheVariants.{NoAnswer};
+ghost use Rattle.transcripts.specs.Lines.{head_line};
 ghost use Rattle.troubles.specs.Troubles.{IsNamed};
 ghost use Rattle.troubles.specs.declared.fault.Fault.TheVariants as ends;
-ghost use Rattle.std.specs.Prelude.{◌≡◌, IfErr};
 
 use crate::desks::{Deadline, DeskPlace, DeskSocket, REST, Talk, connect, desk_place};
 use commands::{
     TalkFault, ask_line, await_line, exchange, fetch_transcript, is_undecided, line_at, links_line,
     propose_line, ready_status, state_line, status_line, tell, tell_object, transcript_line,
 };
+use std::alloc::Global;
 use std::io::{self, BufReader, Write};
 use std::thread;
 use std::time::Duration;
@@ -47,6 +54,7 @@ pub fn transcript_at(
     question: u16,
     timeout: Option<u32>,
 ) -> Result<u8, Failure>
+    ensures status { IfOk result (λ status. status ≤ 1) }
     ensures named { IfErr result (IsNamed address.now) }
 {
     let line = transcript_line(rt.alloc(), question).map_err(|_| Fault::Memory)?;
@@ -76,11 +84,8 @@ fn print_transcript(
 ) -> Result<(), Failure>
     ensures named { IfErr result (IsNamed address.now) }
 {
-    let named = match line_at(reply, 1) {
-        Some(head) => question_in(head),
-        None => None,
-    };
-    if named > Some(question) {
+    let named = question_named(reply);
+    if is_later(named, question) {
         return Err(talk_failure(rt, address, TalkFault::NoAnswer));
     }
     let mut output = io::writer(rt);
@@ -98,6 +103,28 @@ fn print_transcript(
     Ok(())
 }
 
+/// Returns the question that a reply names, if its first line begins a transcript.
+fn question_named(reply: &[u8]) -> Option<u16>
+    ensures { IfSome result
+        (λ question. IsSomeAnd (slice_get (lines_in reply.now) 0)
+        (λ head. (bit : Bool) × (count : ℕ) × (head ≡ head_line question bit count))) }
+{
+    match line_at(reply, 1) {
+        Some(head) => question_in(head),
+        None => None,
+    }
+}
+
+/// Returns `true` if a question is named, and is a later one than this.
+fn is_later(named: Option<u16>, question: u16) -> bool
+    ensures { IsTrue result ↔ IsSomeAnd named (λ named. question < named) }
+{
+    match named {
+        Some(named) => named > question,
+        None => false,
+    }
+}
+
 /// Proposes a bit to the member whose desk is at the address, and prints its reply. The status is
 /// that of the reply.
 pub fn propose_at(
@@ -107,6 +134,7 @@ pub fn propose_at(
     bit: u8,
     timeout: Option<u32>,
 ) -> Result<u8, Failure>
+    ensures status { IfOk result (λ status. status ≤ 1) }
     ensures named { IfErr result (IsNamed address.now) }
 {
     let line = propose_line(rt.alloc(), question, bit).map_err(|_| Fault::Memory)?;
@@ -122,6 +150,7 @@ pub fn ask_at(
     json: bool,
     timeout: Option<u32>,
 ) -> Result<u8, Failure>
+    ensures status { IfOk result (λ status. status ≤ 1) }
     ensures named { IfErr result (IsNamed address.now) }
 {
     let line = ask_line(rt.alloc(), question).map_err(|_| Fault::Memory)?;
@@ -138,6 +167,7 @@ pub fn await_at(
     json: bool,
     timeout: Option<u32>,
 ) -> Result<u8, Failure>
+    ensures status { IfOk result (λ status. status ≤ 1) }
     ensures named { IfErr result (IsNamed address.now) }
 {
     // The first reply comes at once, so that there is one to print however short the time is.
@@ -189,6 +219,7 @@ fn tell_undecided(
     reply: Vec<u8>,
     json: bool,
 ) -> Result<u8, Failure>
+    ensures status { IfOk result (λ status. status ≡ 1) }
     ensures named { IfErr result (IsNamed address.now) }
 {
     let _printed = tell_reply(rt, address, reply, json)?;
@@ -196,8 +227,15 @@ fn tell_undecided(
 }
 
 /// Returns `true` if the failure is that no reply came.
-fn is_no_answer(failure: &Failure) -> bool {
-    matches!(failure.fault, Fault::Talk(TalkFault::NoAnswer))
+fn is_no_answer(failure: &Failure) -> bool
+    ensures { IsTrue result ↔ (failure.now.fault ≡ ends.Talk NoAnswer) }
+{
+    match failure.fault {
+        Fault::Talk(TalkFault::NoAnswer) => true,
+        Fault::Talk(TalkFault::Stream) => false,
+        Fault::Talk(TalkFault::Memory) => false,
+        _ => false,
+    }
 }
 
 /// Asks the member whose desk is at the address whether it is up, and prints its reply. The status
@@ -208,6 +246,7 @@ pub fn status_at(
     json: bool,
     timeout: Option<u32>,
 ) -> Result<u8, Failure>
+    ensures status { IfOk result (λ status. status ≤ 1) }
     ensures named { IfErr result (IsNamed address.now) }
 {
     ask_desk(rt, address, status_line(), json, timeout)
@@ -222,6 +261,7 @@ pub fn state_at(
     json: bool,
     timeout: Option<u32>,
 ) -> Result<u8, Failure>
+    ensures status { IfOk result (λ status. status ≤ 1) }
     ensures named { IfErr result (IsNamed address.now) }
 {
     let line = state_line(rt.alloc(), question).map_err(|_| Fault::Memory)?;
@@ -236,6 +276,7 @@ fn ask_desk(
     json: bool,
     timeout: Option<u32>,
 ) -> Result<u8, Failure>
+    ensures status { IfOk result (λ status. status ≤ 1) }
     ensures named { IfErr result (IsNamed text.now) }
 {
     let deadline = deadline_of(rt, timeout)?;
@@ -253,13 +294,26 @@ pub fn links_at(
     json: bool,
     timeout: Option<u32>,
 ) -> Result<u8, Failure>
+    ensures status { IfOk result (λ status. status ≤ 1) }
     ensures named { IfErr result (IsNamed address.now) }
 {
     let deadline = deadline_of(rt, timeout)?;
     let reply = reply_at(rt, address, links_line(), deadline)?;
+    if ready {
+        return tell_ready(rt, address, reply, json);
+    }
+    tell_reply(rt, address, reply, json)
+}
+
+/// Prints the reply of the desk at the address of a member that is to be ready. The status is 0
+/// only if as many links come in and go out as the member needs to decide, and 1 else.
+fn tell_ready(rt: &HostRuntime, address: &str, reply: Vec<u8>, json: bool) -> Result<u8, Failure>
+    ensures status { IfOk result (HasReadyStatus reply.items) }
+    ensures named { IfErr result (IsNamed address.now) }
+{
     let status = ready_status(&reply);
-    let told = tell_reply(rt, address, reply, json)?;
-    if ready { Ok(status) } else { Ok(told) }
+    let _told = tell_reply(rt, address, reply, json)?;
+    Ok(status)
 }
 
 /// The end of a client that begins now and waits so many milliseconds in all, where that is
@@ -278,6 +332,7 @@ fn reply_at(
     line: &str,
     deadline: Deadline,
 ) -> Result<Vec<u8>, Failure>
+    ensures reply { IfOk result (λ reply. IsReplyLine reply.items) }
     ensures named { IfErr result (IsNamed text.now) }
 {
     let socket = &desk_at(rt, text, deadline)?;
@@ -305,22 +360,33 @@ fn desk_at(rt: &HostRuntime, text: &str, deadline: Deadline) -> Result<DeskSocke
 
 /// Prints the reply of the desk at the address. The status is that of the reply.
 fn tell_reply(rt: &HostRuntime, text: &str, reply: Vec<u8>, json: bool) -> Result<u8, Failure>
+    ensures status { IfOk result (HasStatus reply.items) }
     ensures named { IfErr result (IsNamed text.now) }
 {
-    match print_reply(rt, reply, json) {
+    match print_reply(rt.alloc(), reply, json, &mut io::writer(rt)) {
         Ok(status) => Ok(status),
         Err(fault) => Err(talk_failure(rt, text, fault)),
     }
 }
 
-/// Prints a reply as it stands, or as an object of JSON.
-fn print_reply(rt: &HostRuntime, reply: Vec<u8>, json: bool) -> Result<u8, TalkFault> {
-    let mut output = io::writer(rt);
+/// Prints a reply as it stands, or as an object of JSON. The status is that of the reply.
+fn print_reply<W: Write>(
+    alloc: Global,
+    reply: Vec<u8>,
+    json: bool,
+    output: &mut W,
+) -> Result<u8, TalkFault>
+    ensures status { IfOk result (HasStatus reply.items) }
+    ensures line { json ≡ false →
+        IfOk result (λ _. Appends (W.contents output.old) (W.contents output.new)
+        (reply.items ++ 10 ∷ [])) }
+    ensures object { json ≡ true → IfOk result (λ _. (object : List ℕ) × SaysSame reply.items object
+        × Appends (W.contents output.old) (W.contents output.new) (object ++ 10 ∷ [])) }
+{
     if json {
-        tell_object(rt.alloc(), &reply, &mut output)
-    } else {
-        tell(reply, &mut output)
+        return tell_object(alloc, &reply, output);
     }
+    tell(reply, output)
 }
 
 /// The failure of a talk over a connection that was made.

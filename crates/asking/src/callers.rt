@@ -1,11 +1,16 @@
 //! Calls to all members of a cluster: each in a thread of its own, and all within one time.
 
+ghost use Rattle.std.specs.Prelude.{◌≡◌, IfErr, IfOk, slice_get};
+ghost use Rattle.asking.specs.Deadlines.{total_time};
+ghost use Rattle.asking.specs.Times.{IsTotalOf};
+ghost use Rattle.troubles.specs.declared.fault.Fault.TheVariants as ends;
+
 use crate::board::{Board, News};
 use crate::calls::{Errand, Manner, call};
 use crate::clients::read_client;
 use crate::desks::Deadline;
 use machine::Machine;
-use settings::ClientSettings;
+use settings::{Address, ClientSettings};
 use std::alloc::{AllocError, Global};
 use std::sync::Arc;
 use std::thread;
@@ -27,8 +32,16 @@ pub struct Cluster<'a> {
 }
 
 impl<'a> Cluster<'a> {
+    ghost use Rattle.std.specs.Prelude.{◌<◌, ◌≡◌, IfErr, IfOk, Some, unwrap_or};
+    ghost use Rattle.asking.specs.Deadlines.{total_time};
+    ghost use Rattle.asking.specs.Times.{IsTotalOf};
+    ghost use Rattle.troubles.specs.Troubles.{IsNamed};
+
     /// The client's settings. [`Fault::Question`]: the cluster hasn't this question.
-    pub fn read(&self, host: &HostRuntime, question: u16) -> Result<ClientSettings, Failure> {
+    pub fn read(&self, host: &HostRuntime, question: u16) -> Result<ClientSettings, Failure>
+        ensures has { IfOk result (λ client. question < client.size.questions) }
+        ensures named { IfErr result (IsNamed self.now.file.now) }
+    {
         let client = read_client(host, self.file)?;
         let questions = client.size.questions();
         if question < questions {
@@ -45,7 +58,11 @@ impl<'a> Cluster<'a> {
 
     /// The end of a command that begins now: after the time that is told, or else after ten
     /// seconds.
-    pub fn deadline(&self, host: &HostRuntime) -> Result<Deadline, Failure> {
+    pub fn deadline(&self, host: &HostRuntime) -> Result<Deadline, Failure>
+        ensures { IfOk result
+            (λ deadline. IsTotalOf (Some (unwrap_or self.now.timeout 10000))
+            (total_time deadline)) }
+    {
         deadline_within(host, Some(self.timeout.unwrap_or(IN_ALL)))
     }
 }
@@ -57,7 +74,10 @@ pub const IN_ALL: u32 = 10_000;
 const LONG: u64 = 3600;
 
 /// The end of a command that begins now and takes so many milliseconds at most, if it has one.
-pub fn deadline_within(host: &HostRuntime, limit: Option<u32>) -> Result<Deadline, Failure> {
+pub fn deadline_within(host: &HostRuntime, limit: Option<u32>) -> Result<Deadline, Failure>
+    ensures total { IfOk result (λ deadline. IsTotalOf limit (total_time deadline)) }
+    ensures fault { IfErr result (λ failure. failure.fault ≡ ends.Memory) }
+{
     match Deadline::new(host, limit) {
         Ok(deadline) => Ok(deadline),
         Err(_) => Err(Failure::from(Fault::Memory)),
@@ -155,10 +175,9 @@ impl Calls {
 /// Starts a thread that calls a member. If the system refuses it, the member counts as one that
 /// doesn't answer.
 fn spawn<R: Caller>(rt: &R, errand: &Arc<Errand>, client: &ClientSettings, member: u8) {
-    let Some(desk) = client.desks.get(usize::from(member)) else {
+    let Some(desk) = desk_of(client, member) else {
         return;
     };
-    let desk = *desk;
     let theirs: Result<Arc<Errand>, AllocError> = errand.clone();
     let Ok(theirs) = theirs else {
         return errand.board.leave(rt, member, None);
@@ -167,5 +186,15 @@ fn spawn<R: Caller>(rt: &R, errand: &Arc<Errand>, client: &ClientSettings, membe
     match thread::spawn(rt, move || call(own, theirs, member, desk)) {
         Ok(_left) => {}
         Err(_) => errand.board.leave(rt, member, None),
+    }
+}
+
+/// Returns the desk of the member of that number.
+fn desk_of(client: &ClientSettings, member: u8) -> Option<Address>
+    ensures { result ≡ slice_get client.now.desks.items member }
+{
+    match client.desks.get(usize::from(member)) {
+        Some(desk) => Some(*desk),
+        None => None,
     }
 }

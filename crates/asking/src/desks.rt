@@ -1,8 +1,10 @@
 //! The place of a desk, and the time that a client waits for it.
 
-ghost use Rattle.std.specs.Prelude.{◌≡◌, ◌-◌, ◌≤◌, IfSome, None, Some};
+ghost use Rattle.std.specs.Prelude.{ℕ, List, ◌≡◌, ◌+◌, ◌<◌, ◌≤◌, ◌++◌, ◌↔◌, IfSome, IsNone, IsTrue, codes, length};
 ghost use Rattle.std.specs.Duration.{as_nanos};
 ghost use Rattle.asking.specs.Desks.{IsDeskPlace};
+ghost use Rattle.asking.specs.Times.{IsLeft, IsRest, IsTotalOf};
+ghost use Rattle.asking.specs.declared.desks.DeskPlace.{DeskPlace};
 
 use crate::sockets::socket_address;
 use settings::Address;
@@ -23,7 +25,8 @@ pub enum DeskPlace<'a> {
 /// Returns the place of a desk that the text names: `unix:PATH`, or `HOST:PORT` as
 /// [`Address::parse`] reads it. `None` if it is neither.
 pub fn desk_place(text: &str) -> Option<DeskPlace<'_>>
-    ensures { IfSome result (IsDeskPlace text.now) }
+    ensures some { IfSome result (IsDeskPlace text.now) }
+    ensures none { IsNone result → (place : DeskPlace) → IsDeskPlace text.now place → ⊥ }
 {
     match Address::parse(text) {
         Some(address) => Some(DeskPlace::Host(address)),
@@ -33,12 +36,25 @@ pub fn desk_place(text: &str) -> Option<DeskPlace<'_>>
 
 /// The path of the Unix socket that the text `unix:PATH` names.
 fn path_in(text: &str) -> Option<DeskPlace<'_>>
-    ensures { IfSome result (IsDeskPlace text.now) }
+    ensures some { IfSome result (IsDeskPlace text.now) }
+    ensures none { IsNone result → (path : List ℕ) → text.now ≡ codes "unix:" ++ path →
+        0 < length path → ⊥ }
 {
     match text.strip_prefix("unix:") {
-        Some(path) if !path.is_empty() => Some(DeskPlace::Path(path)),
-        _ => None,
+        Some(path) => place_at(path),
+        None => None,
     }
+}
+
+/// The place of a Unix socket at this path, which mustn't be empty.
+fn place_at(path: &str) -> Option<DeskPlace<'_>>
+    ensures some { IfSome result (IsDeskPlace (codes "unix:" ++ path.now)) }
+    ensures none { IsNone result → length path.now ≡ 0 }
+{
+    if path.is_empty() {
+        return None;
+    }
+    Some(DeskPlace::Path(path))
 }
 
 /// The seconds that a client waits for its connection, where it isn't told.
@@ -61,9 +77,16 @@ pub struct Deadline {
 }
 
 impl Deadline {
+    ghost use Rattle.std.specs.Prelude.{◌≡◌, IfOk, None, false};
+    ghost use Rattle.asking.specs.Deadlines.{total_time};
+    ghost use Rattle.asking.specs.Times.{IsTotalOf, IsWithin};
+
     /// A client that begins now waits so many milliseconds at most, one at least; without an end in
     /// all where it isn't told.
-    pub fn new<R: Clock>(rt: &R, timeout: Option<u32>) -> io::Result<Deadline> {
+    #[tactic(auto, unfolding(crate::specs::Deadlines::total_time))]
+    pub fn new<R: Clock>(rt: &R, timeout: Option<u32>) -> io::Result<Deadline>
+        ensures { IfOk result (λ deadline. IsTotalOf timeout (total_time deadline)) }
+    {
         Ok(Deadline {
             start: Instant::now(rt)?,
             total: total_of(timeout),
@@ -71,7 +94,10 @@ impl Deadline {
     }
 
     /// Returns how long a step of so many seconds may take. An error: there is no time left.
-    pub fn left<R: Clock>(&self, rt: &R, step: u64) -> io::Result<Duration> {
+    #[tactic(auto, using(crate::proofs::Waiting::within), unfolding(crate::specs::Deadlines::total_time))]
+    pub fn left<R: Clock>(&self, rt: &R, step: u64) -> io::Result<Duration>
+        ensures { IfOk result (IsWithin (total_time self.now) step) }
+    {
         let passed = self.start.elapsed(rt)?;
         match left_of(self.total, passed, step) {
             Some(left) => Ok(left),
@@ -80,19 +106,24 @@ impl Deadline {
     }
 
     /// Returns `true` if nothing is left after a rest. Where the clock fails nothing is.
-    pub fn is_over<R: Clock>(&self, rt: &R) -> bool {
+    #[tactic(auto, unfolding(crate::specs::Deadlines::total_time))]
+    pub fn is_over<R: Clock>(&self, rt: &R) -> bool
+        ensures { total_time self.now ≡ None → result ≡ false }
+    {
         let Some(total) = self.total else {
             return false;
         };
         match self.start.elapsed(rt) {
-            Ok(passed) => total.saturating_sub(passed) <= Duration::from_millis(REST),
+            Ok(passed) => is_spent(total, passed),
             Err(_) => true,
         }
     }
 }
 
 /// Returns how long a client waits in all that is told so many milliseconds, one at least.
-fn total_of(timeout: Option<u32>) -> Option<Duration> {
+fn total_of(timeout: Option<u32>) -> Option<Duration>
+    ensures { IsTotalOf timeout result }
+{
     match timeout {
         Some(milliseconds) => Some(Duration::from_millis(u64::from(milliseconds.max(1)))),
         None => None,
@@ -102,10 +133,7 @@ fn total_of(timeout: Option<u32>) -> Option<Duration> {
 /// Returns how much is left of a time in all when so much has passed, or of a step of so many
 /// seconds where the time isn't limited. None: nothing.
 fn left_of(total: Option<Duration>, passed: Duration, step: u64) -> Option<Duration>
-    ensures over { (whole : Duration) → total ≡ Some whole → as_nanos whole ≤ as_nanos passed →
-        result ≡ None }
-    ensures left { (whole : Duration) → total ≡ Some whole →
-        IfSome result (λ left. as_nanos left ≡ as_nanos whole - as_nanos passed) }
+    ensures { IsLeft total passed step result }
 {
     match total {
         Some(whole) => rest_of(whole, passed),
@@ -115,14 +143,21 @@ fn left_of(total: Option<Duration>, passed: Duration, step: u64) -> Option<Durat
 
 /// Returns how much is left of a time when so much of it has passed. None: nothing.
 fn rest_of(whole: Duration, passed: Duration) -> Option<Duration>
-    ensures over { as_nanos whole ≤ as_nanos passed → result ≡ None }
-    ensures left { IfSome result (λ left. as_nanos left ≡ as_nanos whole - as_nanos passed) }
+    ensures { IsRest whole passed result }
 {
     let left = whole.saturating_sub(passed);
     if left.is_zero() {
         return None;
     }
     Some(left)
+}
+
+/// Returns `true` if nothing but a rest is left of a time when so much of it has passed.
+fn is_spent(whole: Duration, passed: Duration) -> bool
+    ensures { IsTrue result ↔ (as_nanos whole ≤ as_nanos passed + 250000000) }
+{
+    let rest = whole.saturating_sub(passed);
+    rest.saturating_sub(Duration::from_millis(REST)).is_zero()
 }
 
 /// A connection to a desk.
@@ -199,7 +234,9 @@ pub struct Talk<'a> {
 
 impl<'a> Talk<'a> {
     /// The talk over this connection, of which 33,554,432 bytes are read at most.
-    pub fn new(rt: &'a HostRuntime, socket: &'a DeskSocket, deadline: Deadline) -> Talk<'a> {
+    pub fn new(rt: &'a HostRuntime, socket: &'a DeskSocket, deadline: Deadline) -> Talk<'a>
+        ensures { result.deadline ≡ deadline }
+    {
         Talk {
             rt,
             socket,

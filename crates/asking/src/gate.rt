@@ -1,6 +1,8 @@
 //! The command `gateway`: a cluster over HTTP. Begin at `run_gateway`.
 
-ghost use Rattle.std.specs.Prelude.{◌≡◌, ◌↔◌, IfErr, IfOk, IfSome, IsTrue};
+ghost use Rattle.std.specs.Prelude.{ℕ, List, [], ◌≡◌, ◌↔◌, ◌∷◌, ◌++◌, IfErr, IfOk, IfSome, IsNone, IsOkAnd, IsSomeAnd, IsTrue, Ok, codes};
+ghost use Rattle.settings.specs.Addresses.{IsAddress};
+ghost use Rattle.settings.specs.declared.address.Address.{Address};
 ghost use Rattle.asking.specs.Gates.{HasToken, IsLineOf, IsToken, IsTokenByte, IsUnopened, Opens, is_open_mode};
 ghost use Rattle.troubles.specs.Troubles.{IsNamed};
 ghost use Rattle.troubles.specs.declared.fault.Fault.TheVariants as ends;
@@ -97,7 +99,12 @@ pub fn run_gateway<R: Caller>(rt: &R, host: &HostRuntime, gate: &Gate<'_>) -> Re
 ///
 /// [`Fault::Address`] if the text isn't one.
 fn listen_address(alloc: Global, text: Option<&str>) -> Result<Address, Failure>
-    ensures { IfErr result (λ failure. failure.fault ≡ ends.Address) }
+    ensures fault { IfErr result (λ failure. failure.fault ≡ ends.Address) }
+    ensures unsaid { IsNone text.entry → IsOkAnd result
+        (λ address. (address.octets ≡ 127 ∷ 0 ∷ 0 ∷ 1 ∷ []) × (address.port ≡ 7180)) }
+    ensures said { IfSome text.entry (λ said. IfOk result (IsAddress said.now)) }
+    ensures exact { (address : Address) → IsSomeAnd text.entry
+        (λ said. IsAddress said.now address) → result ≡ Ok address }
 {
     let Some(text) = text else {
         return Ok(LISTEN);
@@ -164,7 +171,8 @@ fn is_open_mode(mode: u32) -> bool
 
 /// Returns the token of a text that is one line.
 fn token_in(text: &[u8]) -> Option<&[u8]>
-    ensures { IfSome result (λ token. HasToken text.now token.now) }
+    ensures some { IfSome result (λ token. HasToken text.now token.now) }
+    ensures none { IsNone result → (token : List ℕ) → HasToken text.now token → ⊥ }
 {
     let line = without_end(text);
     if is_token(line) { Some(line) } else { None }
@@ -172,7 +180,8 @@ fn token_in(text: &[u8]) -> Option<&[u8]>
 
 /// Returns the text without the end of its line.
 fn without_end(text: &[u8]) -> &[u8]
-    ensures { IsLineOf text.now result.now }
+    ensures line { IsLineOf text.now result.now }
+    ensures end { (line : List ℕ) → text.now ≡ line ++ codes "\n" → result.now ≡ line }
 {
     match text.strip_suffix(b"\n") {
         Some(line) => line,
@@ -254,7 +263,7 @@ fn no_chance(alloc: Global, error: io::Error) -> Failure {
 
 /// Returns the failure of a gateway that doesn't start at this address.
 fn unopened(alloc: Global, address: &str, fault: OpeningFault) -> Failure
-    ensures { IsUnopened result.fault }
+    ensures { IsUnopened fault result.fault }
 {
     match fault {
         OpeningFault::Listen(error) => {

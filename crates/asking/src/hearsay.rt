@@ -9,7 +9,7 @@ use settings::ClientSettings;
 use std::alloc::{AllocError, Global};
 use std::io::{self, Write};
 use terms::Size;
-use transcripts::audit_text;
+use transcripts::{AuditFault, audit_text};
 use troubles::{Failure, Fault};
 
 /// Prints the first transcript that a member of the cluster sends and that is proof of the
@@ -171,7 +171,8 @@ fn are_known(known: u64, size: Size) -> bool {
     known.count_ones() >= u32::from(size.n())
 }
 
-/// Returns the worth of what a member sent of the question, in a cluster of that size.
+/// Returns the worth of what a member sent of the question, in a cluster of that size. Without
+/// memory for an audit there is none.
 fn worth_of(alloc: Global, news: &News, question: u16, size: Size) -> Result<Worth, Fault> {
     let Some(bit) = bit_of(alloc, news, question)? else {
         return Ok(Worth::Nothing);
@@ -182,7 +183,8 @@ fn worth_of(alloc: Global, news: &News, question: u16, size: Size) -> Result<Wor
     let mut verdict: Vec<u8> = Vec::new(alloc);
     match audit_text(alloc, reply, size, &mut verdict) {
         Ok(0) => Ok(Worth::Proof(bit)),
-        _ => Ok(Worth::Transcript),
+        Ok(_) | Err(AuditFault::Line(_)) => Ok(Worth::Transcript),
+        Err(AuditFault::Stream | AuditFault::Memory) => Err(Fault::Memory),
     }
 }
 

@@ -11,6 +11,7 @@ mod desks;
 mod gate;
 mod hearsay;
 mod patience;
+mod readings;
 mod sockets;
 mod stating;
 

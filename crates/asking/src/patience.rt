@@ -1,7 +1,8 @@
 //! The time that a client waits, as its words say it.
 
-ghost use Rattle.std.specs.Prelude.{◌≡◌, IfErr, IfOk, IfSome, IsNone, IsSomeAnd, None};
+ghost use Rattle.std.specs.Prelude.{◌≡◌, IfErr, IfOk, IfSome, IsNone, IsOkAnd, IsSomeAnd, None};
 ghost use Rattle.commands.specs.Patience.{IsPatience};
+ghost use Rattle.troubles.specs.Troubles.{IsNamed};
 ghost use Rattle.troubles.specs.declared.fault.Fault.TheVariants as ends;
 
 use commands::milliseconds;
@@ -15,7 +16,8 @@ const WORDS: &str = "--timeout wants seconds from 0 to 65535, as 5, 0.5 or 5s";
 /// isn't a time.
 pub fn patience_of(alloc: Global, text: Option<&str>) -> Result<Option<u32>, Failure>
     ensures fault { IfErr result (λ failure. failure.fault ≡ ends.Timeout) }
-    ensures untold { IfOk result (λ found. IsNone text.entry → found ≡ None) }
+    ensures named { IfErr result (λ failure. IfSome text.entry (λ said. IsNamed said.now failure)) }
+    ensures untold { IsNone text.entry → IsOkAnd result (λ found. found ≡ None) }
     ensures told { IfOk result (λ found. IfSome text.entry
         (λ said. IsSomeAnd found (IsPatience said.now))) }
 {
@@ -32,6 +34,7 @@ pub fn patience_of(alloc: Global, text: Option<&str>) -> Result<Option<u32>, Fai
 fn told_patience(alloc: Global, text: &str) -> Result<u32, Failure>
     ensures told { IfOk result (IsPatience text.now) }
     ensures fault { IfErr result (λ failure. failure.fault ≡ ends.Timeout) }
+    ensures named { IfErr result (IsNamed text.now) }
 {
     match milliseconds(text) {
         Some(found) => Ok(found),
