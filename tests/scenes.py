@@ -28,6 +28,7 @@ L a connection's name (c1..c9 are nine), S seconds, HEX bytes.
     close L, closed L S, open L S   closes it; the other side closes it within that time; doesn't
     idle L                 says an Idle a second from now on
     refused M COUNT HEX    links that begin so are closed, one after the other
+    strangers M COUNT      so are links that begin as no Hello does, each of another host
     come M P COUNT         links from members P, P + 1 .. 63 and from 1 on again: each is welcomed, and leaves
     soon L S HEX           the same, within that time
     log M LINE             the next line of its log, but lines on peers that can't be reached
@@ -338,6 +339,14 @@ class Scene:
             self.write("refused", *words)
             self.closed("refused", 5)
             self.links.pop("refused").close()
+
+    def strangers(self, me, count):
+        for number in range(int(count)):
+            host = f"127.1.{number >> 8}.{number & 255}"
+            with socket.create_connection(self.address(me), timeout=5, source_address=(host, 0)) as link:
+                link.sendall(b"GET /")
+                with contextlib.suppress(ConnectionResetError):
+                    expect(not link.recv(1), f"{host} is answered")
 
     def come(self, me, first, count):
         came, peer = 0, int(first)
