@@ -4,7 +4,7 @@
 Looks at the edges of the built program for what a user would suffer from and no contract says: how long a client waits, which
 statuses commands end with, whose links a member takes, what it opens and says more often than it should, what a command leaves
 behind. Plays the checks that are named, else all. PROGRAM is crates/bracha/out/bracha unless another is named. It takes the ports
-28400 to 29619, a C compiler, and a minute and a half, with a process for each check and a dozen at a time. Prints what is wrong, and in
+28400 to 29659, a C compiler, and a minute and a half, with a process for each check and a dozen at a time. Prints what is wrong, and in
 its last line `N passed, M failed`; the status is 1 where M isn't 0.
 """
 import concurrent.futures
@@ -12,6 +12,7 @@ import contextlib
 import ctypes
 import errno
 import fcntl
+import itertools
 import json
 import multiprocessing
 import os
@@ -195,11 +196,19 @@ def clients_give_up(folder, port):
                 ["status", "--ready", "--timeout", "1", desk], ["status", "--question", "0", "--timeout", "1", desk],
                 ["transcript", "--timeout", "1", desk, "0"])]
         result = [wrong for it in found for wrong in it.result()]
-        begun = time.monotonic()
         path = client_file(folder, [port, port + 1, port + 2])
-        said, status = say(["--quiet", "propose", "--all", "--timeout", "1", path, "0", "1"], folder)
-        took = time.monotonic() - begun
-        result += differs("propose --all", (status, took < 3, said.count("no answer")), (1, True, 3))
+
+        def all_late(command, told, *more):
+            begun = time.monotonic()
+            said, status = say(["--quiet", *command.split(), "--timeout", "1", path, *more], folder)
+            took = time.monotonic() - begun
+            return differs(f"{command} ({took:.1f} s)", (status, 0.5 < took < 3, said.count(told)), (1, True, 3))
+
+        found = [pool.submit(all_late, *words) for words in (
+            ("propose --all", "no answer", "0", "1"), ("status --all", "no answer"), ("ask --all", "doesn't answer", "0"),
+            ("ask --all --wait", "doesn't answer", "0"), ("decide --all", "doesn't answer", "0", "1"),
+            ("transcript --all", "doesn't answer", "0"), ("audit --all", "doesn't answer", "0"), ("epochs", "no answer"))]
+        result += [wrong for it in found for wrong in it.result()]
     for it in (full, local, *fillers):
         it.close()
     return result
@@ -222,9 +231,14 @@ def waiting_rests_and_ends(folder, port):
             link.sendall(b"DECIDED 1\n" if decided.is_set() else b"UNDECIDED\n")
             decided.set()
 
+    def closes(_):
+        asked.append(time.monotonic())
+
     desk = f"127.0.0.1:{port}"
     found = []
-    with serving(port, undecided), serving(port + 1, late):
+    with serving(port, undecided), serving(port + 1, late), serving(port + 2, closes):
+        said, status = say(["ask", "--wait", "--timeout", "1.5", f"127.0.0.1:{port + 2}", "3"], folder)
+        found += differs("ask --wait at a desk that closes", (status, 1 < len(asked) < 60), (1, True))
         for more, text in (([], "UNDECIDED\n"), (["--json"], None)):
             asked.clear()
             begun = time.monotonic()
@@ -235,6 +249,42 @@ def waiting_rests_and_ends(folder, port):
         said, status = say(["ask", "--wait", "--json", "--timeout", "5", f"127.0.0.1:{port + 1}", "3"], folder)
         found += differs("a decision's JSON", (said, status), ('{"decided":1}\n', 0))
     return found
+
+
+@check
+def who_has_too_few_links_is_not_ready(folder, port):
+    """`status --ready` has status 0 only if the member has as many links in and out as it needs; `status --links` has it anyway."""
+    found = []
+    for place, (reply, ready) in enumerate((("LINKS 3 3 4 3", 0), ("LINKS 2 4 4 3", 1), ("LINKS 4 2 4 3", 1))):
+        with serving(port + place, lambda link, reply=reply: [link.sendall(f"{reply}\n".encode()) for _ in link.makefile("rb")]):
+            for option, status in (("--ready", ready), ("--links", 0)):
+                found += differs(f"{option}, {reply}", say(["status", option, f"127.0.0.1:{port + place}"], folder), (f"{reply}\n", status))
+    return found
+
+
+@check
+def the_last_members_share_a_second(folder, port):
+    """`ask --all` waits a second for the last t members together, and not for each of them."""
+
+    def after(seconds):
+        def undecided(link):
+            link.recv(100)
+            time.sleep(seconds)
+            link.sendall(b"UNDECIDED\n")
+
+        return undecided
+
+    path = f"{folder}/client.toml"
+    with open(path, "w", encoding="ascii") as file:
+        desks = ", ".join(f'"127.0.0.1:{port + it}"' for it in range(16))
+        file.write(f"cluster = 7\nn = 16\nt = 5\nquestions = 64\ndesks = [{desks}]\n")
+    with contextlib.ExitStack() as stack:
+        for member, seconds in enumerate([0] * 11 + [0.8, 1.6, 2.4, 3.2, 60]):
+            stack.enter_context(serving(port + member, after(seconds)))
+        begun = time.monotonic()
+        said, status = say(["ask", "--all", "--timeout", "9", path, "0"], folder)
+        took = time.monotonic() - begun
+    return differs(f"ask --all ({took:.1f} s)", (said.split("\n")[0], status, 0.9 < took < 3), ("UNDECIDED", 1, True))
 
 
 @check
@@ -1439,18 +1489,21 @@ def stalling(folder, **words):
 
 @check
 def a_busy_client_holds_no_line_up(folder, port):
-    """Decisions are logged within seconds while a client proposes one after the other, and a sync takes 20 milliseconds."""
+    """Decisions are logged at once while a client proposes one after the other, and a sync takes 20 milliseconds."""
     path = settings(folder, 0, [f"127.0.0.1:{port}"], f"127.0.0.1:{port + 1}", 1, 0, questions=4096)
     with running(path, "--log", env=stalling(folder, STALL_EACH="20000")):
         with dial(port + 1, timeout=30.0) as desk:
-            replies, told, logged = desk.makefile("rb"), 0, []
-            begun = time.monotonic()
-            while time.monotonic() < begun + 12:
-                desk.sendall(b"PROPOSE %d 1\n" % told)
+            replies, made, late, begun = desk.makefile("rb"), [], 0.0, time.monotonic()
+            for question in itertools.count():
+                desk.sendall(b"PROPOSE %d 1\nSTATUS\n" % question)
                 replies.readline()
-                told += 1
-                logged.append(sum(1 for line in lines_of(path) if line.startswith("decided")))
-    return differs(f"{told} decisions, of which {logged[-1]} are logged in time", (told > 50, logged[-1] > told // 4), (True, True))
+                decided, now = int(replies.readline().split()[2]), time.monotonic()
+                if now > begun + 8:
+                    break
+                made += [now] * (decided - len(made))
+                logged = sum(1 for line in lines_of(path) if line.startswith("decided"))
+                late = max(late, now - made[logged] if logged < len(made) else 0.0)
+    return differs(f"{len(made)} decisions, logged {late:.1f} seconds late at most", (len(made) > 20, late < 1.5), (True, True))
 
 
 @check

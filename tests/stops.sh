@@ -104,6 +104,24 @@ says 'a sync of a new journal that failed' 1 $'bracha: journal Device\nfresh.jou
     env LD_PRELOAD="$room/fail_sync.so" FAIL_SYNC_OF=/fresh.journal FAIL_SYNC_AT=1 "$program" init fresh.toml
 says 'the mark of a new journal' 0 "$boot" readlink fresh.journal.unsynced
 
+# The same of its folder, whose sync keeps the journal's name.
+sed s/alone.journal/named.journal/ alone.toml >named.toml
+says 'a sync of the folder that failed' 1 $'bracha: journal Device\nnamed.journal: Input/output error (os error 5)' \
+    env LD_PRELOAD="$room/fail_sync.so" FAIL_SYNC_OF="$room" FAIL_SYNC_AT=1 "$program" init named.toml
+says 'the mark of its journal' 0 "$boot" readlink named.journal.unsynced
+
+# A chain says nothing before the number of its newest epoch, and that file's name, are on the disk.
+sed '/^journal/a epochs = "chain"' alone.toml >chain.toml
+"$program" init chain.toml
+unnoted=$'bracha: file\nchain/newest: write: Input/output error (os error 5)'
+says 'a sync of the newest number that failed' 1 "$unnoted" \
+    env LD_PRELOAD="$room/fail_sync.so" FAIL_SYNC_OF=/newest.new FAIL_SYNC_AT=1 timeout 20 "$program" run --stay chain.toml
+for at in 1 2; do
+    says "sync $at of its folder that failed" 1 "$unnoted" \
+        env LD_PRELOAD="$room/fail_sync.so" FAIL_SYNC_OF=/chain FAIL_SYNC_AT=$at timeout 20 "$program" run --stay chain.toml
+    rm -f chain/newest
+done
+
 # A file that a migration has made in vain, and that can't be removed, is told of.
 printf 'BRACHAJ1%b' '\0\0\0\0\0\0\0\x07\x04\x01\0\x40\0\0\0\0\1\0\2\2\0\0' >old.journal
 says 'a new file that cannot be removed' 1 $'bracha: migrate CutShort\nnew.journal: is no journal: remove it' \
