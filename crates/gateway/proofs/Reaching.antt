@@ -165,3 +165,23 @@ held_after (Ok done) t heads old new quarter head next moves stays is common lat
 held_after (Err e) t heads old new quarter head next moves stays is common later =
     let same : watch_first new ≡ watch_first old = ap watch_first stays in
     absurd (omega (arith, same, later))
+
+-- there is one such slot
+no_later : (t : ℕ) (heads : List ℕ) (a b : ℕ) → IsCommonHead t heads a → IsCommonHead t heads b → a ≤ b
+no_later t heads zero b one other = omega arith
+no_later t heads (suc a) b one other = other.greatest (suc a) (one.reached (omega arith))
+
+pub one_head : (t : ℕ) (heads : List ℕ) (a b : ℕ) → IsCommonHead t heads a → IsCommonHead t heads b → a ≡ b
+one_head t heads a b one other =
+    let up = no_later t heads a b one other in
+    let down = no_later t heads b a other one in
+    omega (arith, up, down)
+
+-- a call that is refused was to move the window
+pub needed_after : {A E : Type 0} (r : Result A E) (t : ℕ) (heads : List ℕ) (first quarter head next : ℕ)
+    → OnErr r (first < next) → next ≡ next_first first quarter head → IsCommonHead t heads head
+    → OnErr r ((other : ℕ) → IsCommonHead t heads other → first < next_first first quarter other)
+needed_after (Ok done) t heads first quarter head next needed is common = tt
+needed_after (Err e) t heads first quarter head next needed is common = λ other also.
+    subst (λ (h : ℕ). first < next_first first quarter h) (one_head t heads head other common also)
+    (subst (λ (f : ℕ). first < f) is needed)

@@ -178,7 +178,8 @@ impl Watch {
     ///
     /// # Errors
     ///
-    /// [`AllocError`] if an allocation failed. The window stays where it is.
+    /// [`AllocError`] if an allocation failed: that may be only if the window has to move ahead. It
+    /// stays where it is, and the member's slot is noted all the same.
     #[tactic(auto, unfolding(crate::specs::Watches::Watches, crate::specs::Watches::watch_first, crate::specs::Watches::watch_heads, crate::specs::Watches::watch_scope, crate::specs::Watches::watch_size))]
     pub fn reach(&mut self, alloc: Global, member: u8, slot: u64) -> Result<(), AllocError>
         ensures words { (heard : List Told) → Watches self.old heard → Watches self.new heard }
@@ -191,6 +192,11 @@ impl Watch {
             × (watch_first self.new ≡ next_first (watch_first self.old)
             (window_length (watch_scope self.old) / 4) head)) }
         ensures stays { OnErr result (watch_first self.new ≡ watch_first self.old) }
+        ensures chained { OnErr result ((watch_scope self.old).chain ≡ true) }
+        ensures needed { OnErr result ((head : ℕ) →
+            IsCommonHead (watch_size self.old).t (watch_heads self.new) head →
+            watch_first self.old < next_first (watch_first self.old)
+            (window_length (watch_scope self.old) / 4) head) }
         ensures held { watch_first self.old < watch_first self.new →
             (watch_size self.old).t < count_at (watch_heads self.new) (watch_first self.new) }
     {
@@ -214,6 +220,7 @@ impl Watch {
         ensures heads { watch_heads self.new ≡ watch_heads self.old }
         ensures moves { OnOk result (watch_first self.new ≡ first) }
         ensures stays { OnErr result (self.new ≡ self.old) }
+        ensures needed { OnErr result (watch_first self.old < first) }
     {
         if first == self.first {
             return Ok(());
