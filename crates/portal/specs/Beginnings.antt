@@ -1,16 +1,13 @@
 -- A question that comes under way.
-use Rattle.std.specs.Prelude.{ℕ, ◌≡◌, ◌⊎◌, List, [], ◌∷◌, ◌++◌}
-use Rattle.gateway.specs.declared.events.Event.{Event}
+use Rattle.std.specs.Prelude.{ℕ, ◌≡◌, [], ◌∷◌}
 use Rattle.gateway.specs.declared.events.Event.TheVariants as event
 use Rattle.gateway.specs.declared.standings.Stage.{Stage}
 use Rattle.gateway.specs.declared.standings.Stage.TheVariants as stage
 use Rattle.portal.specs.declared.book.Book.{Book}
 use Rattle.portal.specs.declared.notes.Note.{Note}
-use Rattle.portal.specs.Notes.{ShareAPlace, note_on}
-
--- the note on a question
-abbrev pub book_note : Book → ℕ → Note
-book_note book question = note_on book.notes.ring.items question
+use Rattle.portal.specs.Books.{book_note}
+use Rattle.portal.specs.Notes.{ShareAPlace}
+use Rattle.portal.specs.Tellings.{AreTold}
 
 -- nothing is known of the question but what t members at most told
 abbrev pub IsUnproposed : Book → ℕ → Type 0
@@ -20,13 +17,9 @@ IsUnproposed book question = (book_note book question).stage ≡ stage.Unpropose
 abbrev pub begun : Note → Note
 begun note = record note { stage = stage.Proposed }
 
--- this event is the last one that is kept; none is kept if memory for it was refused
-abbrev pub EndsWith : Event → List Event → Type 0
-EndsWith event events = (events ≡ []) ⊎ ((front : List Event) × (events ≡ front ++ event ∷ []))
-
 -- the question comes under way: its note says so, and followers are told. The notes of the others and all else stay
 pub record Begins (old : Book) (question : ℕ) (new : Book) : Type 0 where
   pub note : book_note new question ≡ begun (book_note old question)
   pub others : (other : ℕ) → (ShareAPlace old.notes.ring.items question other → ⊥) → book_note new other ≡ book_note old other
-  pub told : EndsWith (event.Proposed question) new.events.items
+  pub told : AreTold (event.Proposed question ∷ []) old new
   pub rest : new ≡ record old { notes = new.notes; events = new.events; before = new.before }

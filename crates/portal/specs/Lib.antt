@@ -2,4 +2,8 @@ pub mod Ranks
 pub mod Served
 pub mod Times
 pub mod Notes
+pub mod Books
 pub mod Beginnings
+pub mod Fetches
+pub mod Tellings
+pub mod Streams

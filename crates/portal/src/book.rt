@@ -1,9 +1,11 @@
 //! The book of a gateway: a cluster as it is known, and its events.
 
-ghost use Rattle.std.specs.Prelude.{◌≡◌, ◌≤◌, ◌<◌, ◌==◌, ◌↔◌, List, [], IsTrue, filter, find, not};
-ghost use Rattle.gateway.specs.Watches.{Watches};
+ghost use Rattle.std.specs.Prelude.{◌≡◌, ◌≤◌, ◌<◌, ◌==◌, ◌↔◌, List, [], ◌∷◌, IfSome, IsNone, IsTrue, None, drop, filter, find, is_some, length, not, take};
+ghost use Rattle.gateway.specs.Watches.{Decides, Watches, has_word, watch_first, watch_size, words_on};
 ghost use Rattle.gateway.specs.declared.watch.Told.{Told};
-ghost use Rattle.portal.specs.Beginnings.{Begins, EndsWith, IsUnproposed};
+ghost use Rattle.portal.specs.Beginnings.{Begins, IsUnproposed};
+ghost use Rattle.portal.specs.Books.{book_note};
+ghost use Rattle.portal.specs.Tellings.{AreTold, ComparesTo, Hears, IsNews, IsUnknown, MayPropose, Tells, TellsContradictions, TellsDecision, events_after, last_number, ms_since};
 
 use crate::hearing::Hearing;
 use crate::notes::{Note, Notes};
@@ -104,16 +106,19 @@ impl Book {
 
     /// Returns the events after this number, 64 at most. `None` if they aren't kept, or there was
     /// no such number.
-    pub(crate) fn after(&self, number: u64) -> Option<&[Event]> {
+    pub(crate) fn after(&self, number: u64) -> Option<&[Event]>
+        ensures none { IsNone result ↔ IsUnknown self.now number }
+        ensures some { IfSome result (λ events. events.now ≡ events_after self.now number) }
+    {
         if number < self.before {
             return None;
         }
-        let skipped = (number - self.before) as usize;
         let events = self.events.as_slice();
-        if skipped > events.len() {
+        let skipped = number - self.before;
+        if skipped > events.len() as u64 {
             return None;
         }
-        Some(first_of(&events[skipped..]))
+        Some(first_of(from_place(events, skipped as usize)))
     }
 
     /// Counts a request that was refused.
@@ -143,7 +148,13 @@ impl Book {
     }
 
     /// Takes a decision that a member told of a question of the window.
-    fn take(&mut self, told: Told, time: u64) {
+    fn take(&mut self, told: Told, time: u64)
+        ensures news { (heard : List Told) → Watches self.old.hearing heard →
+            IsNews self.old.hearing heard told → Hears heard told time self.old self.new }
+        ensures again { (heard : List Told) → Watches self.old.hearing heard →
+            watch_first self.old.hearing ≤ told.question → told.member < 64 →
+            IsTrue (has_word (words_on told.question heard) told.member) → self.new ≡ self.old }
+    {
         if self.word_of(told.question, told.member).is_some() {
             return;
         }
@@ -151,64 +162,121 @@ impl Book {
         if !self.hearing.take(told) {
             return;
         }
-        match (before, self.decision(told.question)) {
+        let decision = self.decision(told.question);
+        self.tell(told, time, before, decision);
+    }
+
+    /// Notes what a word changed: the decision before it and with it.
+    fn tell(&mut self, told: Told, time: u64, before: Option<bool>, decision: Option<bool>)
+        ensures told { Tells told time before decision self.old self.new }
+        ensures same { self.new.hearing ≡ self.old.hearing }
+    {
+        match (before, decision) {
             (None, Some(bit)) => self.decide(told.question, bit, time),
-            (Some(bit), _) => {
-                if bit != told.bit {
-                    self.note(Event::Contradiction {
-                        member: told.member,
-                        question: told.question,
-                        bit: told.bit,
-                    });
-                }
-            }
+            (Some(bit), _) => self.compare(told, bit),
             (None, None) => self.note_word(told.question),
         }
     }
 
     /// Notes a decision that is new.
-    fn decide(&mut self, question: u64, bit: bool, time: u64) {
+    fn decide(&mut self, question: u64, bit: bool, time: u64)
+        ensures told { TellsDecision self.new.hearing question bit time self.old self.new }
+        ensures same { self.new.hearing ≡ self.old.hearing }
+    {
         let ms = self.time_of(question, time);
-        self.decisions = self.decisions.saturating_add(1);
-        self.recent.note(time);
-        if let Some(ms) = ms {
-            self.count_time(ms);
-        }
+        self.count_decision(time, ms);
         self.note(Event::Decided {
             question,
             bit,
             ms,
             time,
         });
-        for member in 0..self.scope.size.n() {
-            if let Some(bit) = self.watch().contradiction(question, member) {
-                self.note(Event::Contradiction {
-                    member,
-                    question,
-                    bit,
-                });
-            }
-        }
+        self.note_contradictions(question);
     }
 
     /// Returns the milliseconds from the proposal of the question to this moment, if it was
     /// proposed here.
-    fn time_of(&self, question: u64, time: u64) -> Option<u32> {
+    fn time_of(&self, question: u64, time: u64) -> Option<u32>
+        ensures { result ≡ ms_since (book_note self.now question).begun time }
+    {
         match self.notes.at(question).begun {
-            Some(begun) => Some(u32::try_from(time.saturating_sub(begun)).unwrap_or(u32::MAX)),
+            Some(begun) => Some(time.saturating_sub(begun).min(u64::from(u32::MAX)) as u32),
             None => None,
         }
     }
 
+    /// Counts a decision at this time, which came so many milliseconds after its proposal, if that
+    /// is known.
+    fn count_decision(&mut self, time: u64, ms: Option<u32>)
+        ensures rest { self.new ≡ record self.old {
+          decisions = self.new.decisions;
+          recent = self.new.recent;
+          times = self.new.times;
+          sum = self.new.sum;
+        } }
+    {
+        self.decisions = self.decisions.saturating_add(1);
+        self.recent.note(time);
+        if let Some(ms) = ms {
+            self.count_time(ms);
+        }
+    }
+
     /// Counts the milliseconds from a proposal to its decision.
-    fn count_time(&mut self, ms: u32) {
+    fn count_time(&mut self, ms: u32)
+        ensures rest { self.new ≡ record self.old {
+          times = self.new.times;
+          sum = self.new.sum;
+        } }
+    {
         if self.times.note(self.alloc, ms).is_ok() {
             self.sum = self.sum.saturating_add(u64::from(ms));
         }
     }
 
+    /// Notes what each member contradicts by the words on a question.
+    fn note_contradictions(&mut self, question: u64)
+        ensures told { TellsContradictions question self.old self.new }
+    {
+        for member in 0..self.scope.size.n() {
+            self.note_contradiction(question, member);
+        }
+    }
+
+    /// Notes what a member contradicts by the words on a question, if it does.
+    fn note_contradiction(&mut self, question: u64, member: u8)
+        ensures told { TellsContradictions question self.old self.new }
+    {
+        if let Some(bit) = self.watch().contradiction(question, member) {
+            self.note(Event::Contradiction {
+                member,
+                question,
+                bit,
+            });
+        }
+    }
+
+    /// Notes a word on a question that is decided so, if it is another one.
+    #[tactic(auto, using(crate::proofs::Comings::none_told))]
+    fn compare(&mut self, told: Told, bit: bool)
+        ensures told { ComparesTo told bit self.old self.new }
+        ensures agrees { bit ≡ told.bit → self.new ≡ self.old }
+        ensures same { self.new.hearing ≡ self.old.hearing }
+    {
+        if bit != told.bit {
+            self.note(Event::Contradiction {
+                member: told.member,
+                question: told.question,
+                bit: told.bit,
+            });
+        }
+    }
+
     /// Notes that a member told a decision of a question that isn't decided.
-    fn note_word(&mut self, question: u64) {
+    fn note_word(&mut self, question: u64)
+        ensures told { MayPropose question self.old self.new }
+        ensures same { self.new.hearing ≡ self.old.hearing }
+    {
         self.notes.mark_told(question);
         let tellers = self.watch().teller_count(question);
         self.begin_told(question, tellers);
@@ -216,11 +284,14 @@ impl Book {
 
     /// Notes that a question is under way if more than t members told a decision of it: one of them
     /// is correct. What t told, liars may have made up. One that was under way, or spent, stays so.
+    #[tactic(auto, using(crate::proofs::Comings::none_told))]
     fn begin_told(&mut self, question: u64, tellers: u8)
         ensures few { tellers ≤ self.old.scope.size.t → self.new ≡ self.old }
         ensures begins { self.old.scope.size.t < tellers → IsUnproposed self.old question →
             Begins self.old question self.new }
         ensures stays { (IsUnproposed self.old question → ⊥) → self.new ≡ self.old }
+        ensures told { MayPropose question self.old self.new }
+        ensures same { self.new.hearing ≡ self.old.hearing }
     {
         if tellers > self.scope.size.t() {
             self.begin(question);
@@ -357,7 +428,12 @@ impl Book {
     }
 
     /// Returns the bit that a member told of a question.
-    pub(crate) fn word_of(&self, question: u64, member: u8) -> Option<bool> {
+    pub(crate) fn word_of(&self, question: u64, member: u8) -> Option<bool>
+        ensures told { (heard : List Told) → Watches self.now.hearing heard →
+            watch_first self.now.hearing ≤ question → member < 64 →
+            is_some result ≡ has_word (words_on question heard) member }
+        ensures past { question < watch_first self.now.hearing → result ≡ None }
+    {
         self.hearing.watch().word_of(question, member)
     }
 
@@ -478,9 +554,12 @@ impl Book {
     }
 
     /// Notes that a question of the window is under way, if it wasn't and isn't spent.
+    #[tactic(auto, using(crate::proofs::Comings::none_told))]
     fn begin(&mut self, question: u64)
         ensures begins { IsUnproposed self.old question → Begins self.old question self.new }
         ensures stays { (IsUnproposed self.old question → ⊥) → self.new ≡ self.old }
+        ensures told { MayPropose question self.old self.new }
+        ensures same { self.new.hearing ≡ self.old.hearing }
     {
         if self.is_unproposed(question) {
             self.set_begun_stage(question);
@@ -509,7 +588,7 @@ impl Book {
 
     /// Notes an event. If memory for it is refused, followers load everything anew.
     fn note(&mut self, event: Event)
-        ensures told { EndsWith event self.new.events.items }
+        ensures told { AreTold (event ∷ []) self.old self.new }
         ensures rest { self.new ≡ record self.old {
           events = self.new.events;
           before = self.new.before;
@@ -520,7 +599,9 @@ impl Book {
     }
 
     /// Drops the older half of the events if there are as many as are kept.
+    #[tactic(auto, using(crate::proofs::Comings::none_told))]
     fn make_room(&mut self)
+        ensures kept { AreTold [] self.old self.new }
         ensures rest { self.new ≡ record self.old {
           events = self.new.events;
           before = self.new.before;
@@ -533,7 +614,7 @@ impl Book {
 
     /// Puts an event behind those that are kept. If memory for it is refused, none is kept.
     fn push_event(&mut self, event: Event)
-        ensures told { EndsWith event self.new.events.items }
+        ensures told { AreTold (event ∷ []) self.old self.new }
         ensures rest { self.new ≡ record self.old {
           events = self.new.events;
           before = self.new.before;
@@ -547,6 +628,7 @@ impl Book {
 
     /// Drops the older half of the events; all of them if memory for the others is refused.
     fn drop_older(&mut self)
+        ensures kept { AreTold [] self.old self.new }
         ensures rest { self.new ≡ record self.old {
           events = self.new.events;
           before = self.new.before;
@@ -565,6 +647,7 @@ impl Book {
     /// Drops all events.
     fn drop_events(&mut self)
         ensures none { self.new.events.items ≡ [] }
+        ensures last { last_number self.new ≡ last_number self.old }
         ensures rest { self.new ≡ record self.old {
           events = self.new.events;
           before = self.new.before;
@@ -591,13 +674,19 @@ impl Book {
     }
 
     /// Returns the decision of a question: the bit that more than t members told.
-    pub(crate) fn decision(&self, question: u64) -> Option<bool> {
+    pub(crate) fn decision(&self, question: u64) -> Option<bool>
+        ensures decides { (heard : List Told) → Watches self.now.hearing heard →
+            watch_first self.now.hearing ≤ question →
+            Decides (watch_size self.now.hearing) heard question result }
+        ensures past { question < watch_first self.now.hearing → result ≡ None }
+    {
         self.hearing.watch().decision(question)
     }
 
     /// Returns the watch.
     pub(crate) fn watch(&self) -> &Watch
-        ensures { (heard : List Told) × Watches result.now heard }
+        ensures value { result.now ≡ self.now.hearing }
+        ensures stands { (heard : List Told) × Watches result.now heard }
     {
         self.hearing.watch()
     }
@@ -647,7 +736,9 @@ impl Book {
     }
 
     /// Returns the position of the last event in this life.
-    pub(crate) fn position(&self, life: u64) -> Position {
+    pub(crate) fn position(&self, life: u64) -> Position
+        ensures { result ≡ record { life = life; number = last_number self.now } }
+    {
         Position {
             life,
             number: self.last(),
@@ -655,7 +746,9 @@ impl Book {
     }
 
     /// Returns the number of the last event.
-    pub(crate) fn last(&self) -> u64 {
+    pub(crate) fn last(&self) -> u64
+        ensures { result ≡ last_number self.now }
+    {
         self.before.saturating_add(self.events.len() as u64)
     }
 }
@@ -674,7 +767,19 @@ fn new_view(alloc: Global) -> MemberView {
 }
 
 /// Returns the first 64 events at most.
-fn first_of(events: &[Event]) -> &[Event] {
-    let most = events.len().min(64);
-    &events[..most]
+fn first_of(events: &[Event]) -> &[Event]
+    ensures { result.now ≡ take 64 events.now }
+{
+    if events.len() < 64 {
+        return events;
+    }
+    &events[..64]
+}
+
+/// Returns the events from this place on.
+fn from_place(events: &[Event], place: usize) -> &[Event]
+    requires { place ≤ length events.now }
+    ensures { result.now ≡ drop place events.now }
+{
+    &events[place..]
 }

@@ -1,7 +1,7 @@
 //! A watch that stands for what members told.
 
-ghost use Rattle.std.specs.Prelude.{IfOk, List};
-ghost use Rattle.gateway.specs.Watches.{Watches};
+ghost use Rattle.std.specs.Prelude.{◌≡◌, ◌<◌, ◌↔◌, ◌∷◌, ◌++◌, [], IsFalse, IsTrue, List};
+ghost use Rattle.gateway.specs.Watches.{IsInWindow, Watches, watch_first, watch_size};
 ghost use Rattle.gateway.specs.declared.watch.Told.{Told};
 
 use gateway::{Scope, Told, Watch};
@@ -19,28 +19,20 @@ impl Model for Hearing {
     ghost use Rattle.std.specs.Prelude.{List};
     ghost use Rattle.gateway.specs.Watches.{Watches};
     ghost use Rattle.gateway.specs.declared.watch.Told.{Told};
+    ghost use Rattle.gateway.specs.declared.watch.Watch.{Watch};
 
-    ghost Value = { Unit {0} };
+    ghost Value = { Watch };
 
-    ghost view = { λ _. tt };
+    ghost view = { λ it. it.watch };
 
     ghost invariant = { λ it. (heard : List Told) × Watches it.watch heard };
 }
 
 impl Hearing {
-    /// Returns a watch over this cluster or chain, before anybody told anything.
-    pub(crate) fn new(alloc: Global, scope: Scope) -> Result<Hearing, AllocError> {
-        if scope.chain {
-            let watch = Watch::of_chain(alloc, scope.size)?;
-            return Ok(Hearing { watch });
-        }
-        let watch = Watch::new(alloc, scope.size)?;
-        Ok(Hearing { watch })
-    }
-
     /// Returns the watch.
     pub(crate) fn watch(&self) -> &Watch
-        ensures { (heard : List Told) × Watches result.now heard }
+        ensures value { result.now ≡ self.now }
+        ensures stands { (heard : List Told) × Watches result.now heard }
     {
         &self.watch
     }
@@ -53,7 +45,26 @@ impl Hearing {
 
     /// Takes a decision that a member told. Returns `false` if there is no such member, or the
     /// question isn't one of the window.
-    pub(crate) fn take(&mut self, told: Told) -> bool {
+    pub(crate) fn take(&mut self, told: Told) -> bool
+        ensures words { IsTrue result → (heard : List Told) → Watches self.old heard →
+            Watches self.new (heard ++ told ∷ []) }
+        ensures same { IsFalse result → self.new ≡ self.old }
+        ensures size { watch_size self.new ≡ watch_size self.old }
+        ensures first { watch_first self.new ≡ watch_first self.old }
+        ensures taken { (heard : List Told) → Watches self.old heard →
+            (IsTrue result ↔ ((told.member < (watch_size self.old).n)
+            × IsInWindow self.old told.question)) }
+    {
         self.watch.take(told)
+    }
+
+    /// Returns a watch over this cluster or chain, before anybody told anything.
+    pub(crate) fn new(alloc: Global, scope: Scope) -> Result<Hearing, AllocError> {
+        if scope.chain {
+            let watch = Watch::of_chain(alloc, scope.size)?;
+            return Ok(Hearing { watch });
+        }
+        let watch = Watch::new(alloc, scope.size)?;
+        Ok(Hearing { watch })
     }
 }

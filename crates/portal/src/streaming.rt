@@ -1,11 +1,17 @@
 //! The stream of events to one follower.
 
+ghost use Rattle.std.specs.Prelude.{◌≡◌, ◌≤◌, ◌<◌, ◌+◌, IfOk, length};
+ghost use Rattle.gateway.specs.Events.{beat_text, restarted_text};
+ghost use Rattle.portal.specs.Streams.{IsChunk};
+ghost use Rattle.portal.specs.Tellings.{IsUnknown, event_texts, events_after, last_number, number_after};
+
+use crate::book::Book;
 use crate::deadline::Deadline;
 use crate::lines::write_all;
 use crate::serving::Runner;
 use crate::shared::{Shared, time_now};
-use gateway::{Position, beat_text, event_text, restarted_text};
-use std::alloc::AllocError;
+use gateway::{Event, Position, beat_text, event_text, restarted_text};
+use std::alloc::{AllocError, Global};
 use std::io;
 use std::net::TcpStream;
 use std::sync::atomic::Ordering;
@@ -83,26 +89,64 @@ fn next_chunk<R: Runner>(rt: &R, shared: &Shared, number: u64) -> Result<Chunk, 
     let (book, _late) = shared.changed.wait_timeout_while(rt, book, limit, |book| {
         book.last() == number && !shared.is_over()
     });
-    let mut bytes = Vec::new(shared.alloc);
-    let Some(events) = book.after(number) else {
-        let at = book.position(shared.life);
-        bytes.extend_from_slice(restarted_text(shared.alloc, at)?.as_bytes())?;
-        return Ok(Chunk {
-            bytes,
-            number: at.number,
-        });
-    };
+    chunk_after(shared.alloc, &book, shared.life, number, time_now(rt))
+}
+
+/// Returns the events of the book after a number, in this life; a beat at this time if there is
+/// none; or that all must be loaded anew.
+fn chunk_after(
+    alloc: Global,
+    book: &Book,
+    life: u64,
+    number: u64,
+    time: u64,
+) -> Result<Chunk, AllocError>
+    ensures anew { IsUnknown book.now number →
+        IfOk result (λ chunk. IsChunk chunk
+        (restarted_text (record { life = life; number = last_number book.now }))
+        (last_number book.now)) }
+    ensures beat { number ≡ book.now.before + length book.now.events.items →
+        IfOk result (λ chunk. IsChunk chunk (beat_text time) number) }
+    ensures events { book.now.before ≤ number →
+        number < book.now.before + length book.now.events.items →
+        IfOk result (λ chunk. IsChunk chunk
+        (event_texts life number (events_after book.now number))
+        (number_after number (length (events_after book.now number)))) }
+{
+    match book.after(number) {
+        None => {
+            let at = book.position(life);
+            let text = restarted_text(alloc, at)?;
+            chunk_of(alloc, text.as_str(), at.number)
+        }
+        Some([]) => {
+            let text = beat_text(alloc, time)?;
+            chunk_of(alloc, text.as_str(), number)
+        }
+        Some(events) => chunk_with(alloc, life, number, events),
+    }
+}
+
+/// Returns a text as a chunk.
+fn chunk_of(alloc: Global, text: &str, number: u64) -> Result<Chunk, AllocError>
+    ensures { IfOk result (λ chunk. IsChunk chunk text.now number) }
+{
+    let mut bytes = Vec::new(alloc);
+    bytes.extend_from_slice(text.as_bytes())?;
+    Ok(Chunk { bytes, number })
+}
+
+/// Returns the texts of these events, the first of which has the number after this one.
+fn chunk_with(alloc: Global, life: u64, number: u64, events: &[Event]) -> Result<Chunk, AllocError>
+    ensures { IfOk result (λ chunk. IsChunk chunk (event_texts life number events.now)
+        (number_after number (length events.now))) }
+{
+    let mut bytes = Vec::new(alloc);
     let mut last = number;
     for event in events {
         last = last.saturating_add(1);
-        let at = Position {
-            life: shared.life,
-            number: last,
-        };
-        bytes.extend_from_slice(event_text(shared.alloc, at, event)?.as_bytes())?;
-    }
-    if bytes.is_empty() {
-        bytes.extend_from_slice(beat_text(shared.alloc, time_now(rt))?.as_bytes())?;
+        let at = Position { life, number: last };
+        bytes.extend_from_slice(event_text(alloc, at, event)?.as_bytes())?;
     }
     Ok(Chunk {
         bytes,
