@@ -3,7 +3,7 @@
 ghost use Rattle.commands.specs.declared.fault.InitFault.TheVariants.{NotEmpty};
 ghost use Rattle.machine.specs.declared.fault.RunFault.TheVariants.{Forgotten};
 ghost use Rattle.std.specs.Fmt.{decimal};
-ghost use Rattle.std.specs.Prelude.{ℕ, ◌≡◌, ◌↔◌, ◌+◌, ◌<◌, ◌^◌, ◌≤◌, ◌++◌, Some, IfErr, IfOk, IfSome, codes, string_bytes};
+ghost use Rattle.std.specs.Prelude.{ℕ, ◌≡◌, ◌↔◌, ◌⊎◌, ◌+◌, ◌<◌, ◌^◌, ◌≤◌, ◌++◌, Some, IfErr, IfOk, IfSome, codes, string_bytes};
 ghost use Rattle.terms_prelude.specs.Terms.{new_header};
 ghost use Rattle.troubles.specs.Faults.{IsMeant};
 ghost use Rattle.troubles.specs.declared.fault.Fault.TheVariants as ends;
@@ -11,6 +11,7 @@ ghost use Rattle.troubles.specs.declared.fault.Fault.TheVariants as ends;
 use crate::files::{Purpose, Source, failure_for, keep_to_files, open_good_disk};
 use crate::forgotten::refuse_forgotten;
 use crate::newest::{is_noted, newest_noted};
+use crate::presence::is_there;
 use crate::unsynced::refuse_unsynced;
 use chain::Chain;
 use commands::InitFault;
@@ -62,11 +63,7 @@ const MISSING: &str =
 pub fn epochs_in(host: &HostRuntime, folder: &str) -> Result<Span, Failure>
     ensures { IfErr result (λ failure. IsMeant ends.File failure.fault) }
 {
-    let found = match span_in(host, folder) {
-        Ok(found) => found,
-        Err(error) if error.kind() == io::ErrorKind::NotFound => None,
-        Err(error) => return Err(failed(host, folder, &error)),
-    };
+    let found = span_of(host, folder, ".journal")?;
     if let Some(epoch) = lost_of(found, newest_noted(host, folder)?) {
         let path = epoch_path(host.alloc(), folder, epoch).map_err(|_| Fault::Memory)?;
         return Err(lost(host, path.as_str()));
@@ -132,12 +129,14 @@ fn nothing_in(host: &HostRuntime, folder: &str) -> Failure
 /// Refuses the folder of a chain in which a journal stands that was put aside: its member may never
 /// run again.
 ///
-/// [`Fault::Run`] with [`machine::RunFault::Forgotten`]: one stands there.
+/// [`Fault::Run`] with [`machine::RunFault::Forgotten`]: one stands there; [`Fault::File`]: the
+/// folder can't be looked into.
 pub fn refuse_forgotten_in(host: &HostRuntime, folder: &str, member: u8) -> Result<(), Failure>
-    ensures { IfErr result (λ failure. IsMeant (ends.Run Forgotten) failure.fault) }
+    ensures { IfErr result
+        (λ failure. IsMeant (ends.Run Forgotten) failure.fault
+        ⊎ IsMeant ends.File failure.fault) }
 {
-    let Ok(Some(span)) = span_of(host, folder, ".journal.forgotten") else {
-        // One that can't be looked into is refused when its journals are looked for.
+    let Some(span) = span_of(host, folder, ".journal.forgotten")? else {
         return Ok(());
     };
     let path = epoch_path(host.alloc(), folder, span.first).map_err(|_| Fault::Memory)?;
@@ -146,11 +145,14 @@ pub fn refuse_forgotten_in(host: &HostRuntime, folder: &str, member: u8) -> Resu
 
 /// Refuses to begin a chain in a folder on whose journals its member has run.
 ///
-/// [`Fault::Init`] with [`InitFault::NotEmpty`]: it has journals of later epochs, or had some.
+/// [`Fault::Init`] with [`InitFault::NotEmpty`]: it has journals of later epochs, or had some;
+/// [`Fault::File`]: it can't be looked into.
 pub(crate) fn refuse_begun(host: &HostRuntime, folder: &str) -> Result<(), Failure>
-    ensures { IfErr result (λ failure. IsMeant (ends.Init NotEmpty) failure.fault) }
+    ensures { IfErr result
+        (λ failure. IsMeant (ends.Init NotEmpty) failure.fault
+        ⊎ IsMeant ends.File failure.fault) }
 {
-    let Some(words) = traces_in(host, folder).map_err(|_| Fault::Memory)? else {
+    let Some(words) = traces_in(host, folder)? else {
         return Ok(());
     };
     let fault = Fault::Init(InitFault::NotEmpty);
@@ -161,25 +163,50 @@ pub(crate) fn refuse_begun(host: &HostRuntime, folder: &str) -> Result<(), Failu
 const GONE: &str = "the member has run on journals of this folder, which are gone: put them back";
 
 /// Returns what tells that a member has run on the journals of a folder, if anything does.
-fn traces_in(host: &HostRuntime, folder: &str) -> Result<Option<String>, AllocError> {
-    let alloc = host.alloc();
-    match span_in(host, folder) {
-        Ok(Some(Span { last, .. })) if last > 0 => Ok(Some(format!(in alloc;
-            "journals up to that of epoch {last} are here: the member has run on them"
-        )?)),
-        Ok(None) if is_noted(host, folder)? => Ok(Some(String::from_str(alloc, GONE)?)),
-        // One that can't be looked into is refused when the first journal is made.
+///
+/// [`Fault::File`]: it can't be looked into.
+fn traces_in(host: &HostRuntime, folder: &str) -> Result<Option<String>, Failure>
+    ensures { IfErr result (λ failure. IsMeant ends.File failure.fault) }
+{
+    match span_of(host, folder, ".journal")? {
+        Some(Span { last, .. }) if last > 0 => later_words(host.alloc(), last),
+        None if is_noted(host, folder)? => gone_words(host.alloc()),
         _ => Ok(None),
     }
 }
 
-/// Returns the epochs whose journals are in the folder.
-fn span_in(host: &HostRuntime, folder: &str) -> io::Result<Option<Span>> {
-    span_of(host, folder, ".journal")
+/// Returns the words on a folder that has the journals of epochs up to this one.
+fn later_words(alloc: Global, last: u64) -> Result<Option<String>, Failure>
+    ensures { IfErr result (λ failure. IsMeant ends.File failure.fault) }
+{
+    let words = format!(in alloc;
+        "journals up to that of epoch {last} are here: the member has run on them"
+    );
+    Ok(Some(words.map_err(|_| Fault::Memory)?))
+}
+
+/// Returns the words on a folder whose journals are gone.
+fn gone_words(alloc: Global) -> Result<Option<String>, Failure>
+    ensures { IfErr result (λ failure. IsMeant ends.File failure.fault) }
+{
+    Ok(Some(String::from_str(alloc, GONE).map_err(|_| Fault::Memory)?))
+}
+
+/// Returns the epochs of which the folder has a file with this ending; none if there is no folder.
+///
+/// [`Fault::File`]: it can't be looked into.
+fn span_of(host: &HostRuntime, folder: &str, ending: &str) -> Result<Option<Span>, Failure>
+    ensures { IfErr result (λ failure. IsMeant ends.File failure.fault) }
+{
+    match span_in(host, folder, ending) {
+        Ok(span) => Ok(span),
+        Err(error) if error.kind() == io::ErrorKind::NotFound => Ok(None),
+        Err(error) => Err(failed(host, folder, &error)),
+    }
 }
 
 /// Returns the epochs of which the folder has a file with this ending.
-fn span_of(host: &HostRuntime, folder: &str, ending: &str) -> io::Result<Option<Span>> {
+fn span_in(host: &HostRuntime, folder: &str, ending: &str) -> io::Result<Option<Span>> {
     let mut span = None;
     for entry in fs::read_dir(host, folder)? {
         let entry = entry?;
@@ -297,17 +324,18 @@ fn journal_of(
 /// Makes an epoch's journal, if there is none. It is made beside its place and then renamed, so
 /// that what is at its place was made whole.
 ///
-/// [`Fault::File`], [`Fault::Journal`]: it can't be made.
+/// [`Fault::File`], [`Fault::Journal`]: it can't be made, or the system doesn't say whether there
+/// is one.
 pub fn make_journal<P: Premise>(
     host: &HostRuntime,
     path: &str,
     header: &Header,
 ) -> Result<(), Failure> {
-    if !is_missing(host, path) {
+    if is_there(host, path)? {
         return Ok(());
     }
     let new = format!(in host.alloc(); "{path}.new").map_err(|_| Fault::Memory)?;
-    if !is_missing(host, new.as_str()) {
+    if is_there(host, new.as_str())? {
         // A run ended while it made it.
         if let Err(error) = fs::remove_file(host, new.as_str()) {
             return Err(failed(host, new.as_str(), &error));
@@ -329,7 +357,7 @@ fn create_at<P: Premise>(host: &HostRuntime, path: &str, header: &Header) -> Res
     }
 }
 
-/// Returns `true` if nothing has this path.
+/// Returns `true` if nothing has this path, and `false` too if the system doesn't say.
 pub fn is_missing(host: &HostRuntime, path: &str) -> bool {
     match fs::symlink_metadata(host, path) {
         Ok(_) => false,

@@ -19,6 +19,7 @@ use crate::forgotten::refuse_forgotten;
 use crate::page_files::{
     Page, fault_at, keep_apart, keep_two_apart, name_of, warn_of_length, write_page,
 };
+use crate::presence::leads_somewhere;
 use crate::rows::{check_rows, check_size};
 use crate::unsynced::{MarkedDisk, refuse_unsynced};
 use commands::{
@@ -473,7 +474,7 @@ pub fn migrate_file<P: Premise, Q: Premise>(
     keep_two_apart(rt, new, old)?;
     refuse_unsynced(rt, new)?;
     let (mut from, old_source) = open_good_disk::<P>(rt, old, Purpose::Look)?;
-    let made = fs::metadata(rt, new).is_err();
+    let made = !leads_somewhere(rt, new)?;
     let (to, new_source) = open_disk::<Q>(rt, new, Purpose::Make)?;
     match migrate_disks(rt.alloc(), &mut from, to, &mut io::writer(rt)) {
         Ok(_disk) => Ok(0),

@@ -4,12 +4,13 @@
 //! journal is renamed, which needs no room on the disk, and while the renamed file is there neither
 //! `run` nor `init` gives the member another life.
 
-ghost use Rattle.std.specs.Prelude.{ℕ, ◌≡◌, ◌≤◌, ◌++◌, codes, string_bytes, IfErr, IfOk};
+ghost use Rattle.std.specs.Prelude.{ℕ, ◌≡◌, ◌⊎◌, ◌≤◌, ◌++◌, codes, string_bytes, IfErr, IfOk};
 ghost use Rattle.std.specs.Fmt.{decimal};
 ghost use Rattle.machine.specs.declared.fault.RunFault.TheVariants.{Forgotten};
 ghost use Rattle.troubles.specs.Faults.{IsMeant};
 ghost use Rattle.troubles.specs.declared.fault.Fault.TheVariants as ends;
 
+use crate::presence::is_there;
 use machine::RunFault;
 use std::alloc::{AllocError, Global};
 use std::{fs, io};
@@ -18,12 +19,15 @@ use troubles::{Failure, Fault, Trouble, Whereabouts, trouble_of};
 /// Refuses the place of a journal beside which one stands that was put aside: its member may never
 /// run again.
 ///
-/// [`Fault::Run`] with [`RunFault::Forgotten`]: one stands there.
+/// [`Fault::Run`] with [`RunFault::Forgotten`]: one stands there; [`Fault::File`]: the system
+/// doesn't say whether one does.
 pub fn refuse_forgotten(host: &HostRuntime, journal: &str, member: u8) -> Result<(), Failure>
-    ensures { IfErr result (λ failure. IsMeant (ends.Run Forgotten) failure.fault) }
+    ensures { IfErr result
+        (λ failure. IsMeant (ends.Run Forgotten) failure.fault
+        ⊎ IsMeant ends.File failure.fault) }
 {
     let path = first_path(host.alloc(), journal).map_err(|_| Fault::Memory)?;
-    if fs::symlink_metadata(host, path.as_str()).is_err() {
+    if !is_there(host, path.as_str())? {
         return Ok(());
     }
     Err(Failure {

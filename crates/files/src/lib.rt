@@ -10,6 +10,7 @@ mod files;
 mod forgotten;
 mod newest;
 mod page_files;
+mod presence;
 mod rows;
 mod shapes;
 mod unsynced;

@@ -8,8 +8,9 @@ ghost use Rattle.std.specs.Prelude.{◌≡◌, ◌++◌, IfErr, IfOk, codes, str
 ghost use Rattle.troubles.specs.Faults.{IsMeant};
 ghost use Rattle.troubles.specs.declared.fault.Fault.TheVariants as ends;
 
-use crate::epoch_files::{epoch_named, is_missing};
+use crate::epoch_files::epoch_named;
 use crate::files::keep_to_files;
+use crate::presence::is_there;
 use std::alloc::{AllocError, Global};
 use std::fs::{self, File};
 use std::io::{self, Write};
@@ -65,7 +66,7 @@ pub(crate) fn newest_noted(host: &HostRuntime, folder: &str) -> Result<Option<u6
 {
     let path = newest_path(host.alloc(), folder).map_err(|_| Fault::Memory)?;
     let path = path.as_str();
-    if is_missing(host, path) {
+    if !is_there(host, path)? {
         return Ok(None);
     }
     keep_to_files(host, path)?;
@@ -89,9 +90,13 @@ pub(crate) fn newest_noted(host: &HostRuntime, folder: &str) -> Result<Option<u6
 }
 
 /// Returns `true` if anything is noted of a folder.
-pub(crate) fn is_noted(host: &HostRuntime, folder: &str) -> Result<bool, AllocError> {
-    let path = newest_path(host.alloc(), folder)?;
-    Ok(!is_missing(host, path.as_str()))
+///
+/// [`Fault::File`]: the system doesn't say.
+pub(crate) fn is_noted(host: &HostRuntime, folder: &str) -> Result<bool, Failure>
+    ensures { IfErr result (λ failure. IsMeant ends.File failure.fault) }
+{
+    let path = newest_path(host.alloc(), folder).map_err(|_| Fault::Memory)?;
+    is_there(host, path.as_str())
 }
 
 /// The path of the file of a folder that has the number.

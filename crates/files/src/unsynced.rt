@@ -9,7 +9,8 @@ ghost use Rattle.std.specs.Prelude.{◌≡◌, ◌↔◌, ◌++◌, Some, None, 
 ghost use Rattle.disk.specs.File.{file_failures};
 ghost use Rattle.journal.specs.declared.fault.JournalFault.TheVariants.{Device};
 ghost use Rattle.commands.specs.TextLines.{lines_in};
-ghost use Rattle.files.specs.Disks.{marked_file};
+ghost use Rattle.std.specs.IoError.{error_kind};
+ghost use Rattle.files.specs.Disks.{MeansNone, marked_file};
 ghost use Rattle.troubles.specs.Faults.{IsMeant};
 ghost use Rattle.troubles.specs.declared.fault.Fault.TheVariants as ends;
 
@@ -45,20 +46,23 @@ fn first_text(alloc: Global, text: &[u8]) -> Result<Option<String>, AllocError>
 
 /// Refuses a journal of which a sync failed in this boot.
 ///
-/// [`Fault::Journal`] with [`JournalFault::Device`]: one did.
+/// [`Fault::Journal`] with [`JournalFault::Device`]: one did, or the system doesn't say.
 pub fn refuse_unsynced(host: &HostRuntime, journal: &str) -> Result<(), Failure>
     ensures { IfErr result (λ failure. IsMeant (ends.Journal Device) failure.fault) }
 {
-    let Some(mark) = Mark::of(host, journal).map_err(|_| Fault::Memory)? else {
-        return Ok(());
-    };
-    let found = mark.found(host).map_err(|_| Fault::Memory)?;
-    if found != Some(true) {
-        return Ok(());
-    }
+    let (alloc, place) = (host.alloc(), Whereabouts::Open);
     let fault = Fault::Journal(JournalFault::Device);
+    let mark = match Mark::of(host, journal) {
+        Ok(Some(mark)) => mark,
+        Ok(None) => return Ok(()),
+        Err(error) => return Err(Failure::of_system(alloc, fault, BOOT, place, error)),
+    };
     let path = mark.path.as_str();
-    Err(Failure::at(host.alloc(), fault, path, Whereabouts::Whole, &CAUSE))
+    match mark.found(host) {
+        Ok(Some(true)) => Err(Failure::at(alloc, fault, path, Whereabouts::Whole, &CAUSE)),
+        Ok(_) => Ok(()),
+        Err(error) => Err(Failure::of_system(alloc, fault, path, place, error)),
+    }
 }
 
 /// Removes the mark of a journal that another boot left.
@@ -157,16 +161,16 @@ struct Mark {
 }
 
 impl Mark {
-    /// The mark of a journal; none where the system tells no id of the boot.
-    fn of(host: &HostRuntime, journal: &str) -> Result<Option<Mark>, AllocError>
+    /// The mark of a journal; none where the system has no id of the boot.
+    fn of(host: &HostRuntime, journal: &str) -> io::Result<Option<Mark>>
         ensures { IfOk result
             (λ mark. IfSome mark (λ mark. string_bytes mark.path ≡ journal.now
             ++ codes ".unsynced")) }
     {
         let text = match fs::read(host, BOOT) {
             Ok(text) => text,
-            Err(error) if error.kind() == io::ErrorKind::OutOfMemory => return Err(AllocError),
-            Err(_) => return Ok(None),
+            Err(error) if is_none(&error) => return Ok(None),
+            Err(error) => return Err(error),
         };
         let Some(boot) = first_text(host.alloc(), &text)? else {
             return Ok(None);
@@ -188,12 +192,25 @@ impl Mark {
     }
 
     /// Returns if the mark is there, and of which boot: `true` for this one, `false` for another.
-    fn found(&self, host: &HostRuntime) -> Result<Option<bool>, AllocError> {
+    /// A file that is no link is no mark.
+    fn found(&self, host: &HostRuntime) -> io::Result<Option<bool>> {
         match fs::read_link(host, self.path.as_str()) {
             Ok(target) => Ok(Some(is_of(target.as_str(), self.boot.as_str()))),
-            Err(error) if error.kind() == io::ErrorKind::OutOfMemory => Err(AllocError),
-            Err(_) => Ok(None),
+            Err(error) if is_none(&error) => Ok(None),
+            Err(error) => Err(error),
         }
+    }
+}
+
+/// Returns `true` if the error says that nothing is there, or not to be read by this user, or no
+/// link: another one may pass.
+fn is_none(error: &io::Error) -> bool
+    ensures { IsTrue result ↔ MeansNone (error_kind error.now) }
+{
+    match error.kind() {
+        io::ErrorKind::NotFound | io::ErrorKind::PermissionDenied | io::ErrorKind::InvalidInput =>
+            true,
+        _ => false,
     }
 }
 
