@@ -1,7 +1,7 @@
 //! The standard input, read aside.
 
 use std::alloc::{AllocError, Global};
-use std::io::Read;
+use std::io::{self, Read};
 use std::rt::Stdin;
 use std::sync::Arc;
 use std::sync::atomic::{AtomicBool, Ordering};
@@ -39,6 +39,7 @@ impl Input {
             match input.read(&mut piece) {
                 Ok(0) => break,
                 Ok(_) => {}
+                Err(error) if error.kind() == io::ErrorKind::Interrupted => {}
                 Err(_) => {
                     self.failed.store(true, Ordering::SeqCst);
                     break;
