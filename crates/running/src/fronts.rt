@@ -58,13 +58,10 @@ pub fn run_fronts<O: Operator, R: Machine>(
     operator.ready()?;
     thread::scope(thread::scope_env(), rt, |scope| -> Result<(), RunFault> {
         let (listener, hosts) = (&doors.links.listener, &doors.hosts);
-        if scope
+        let links = scope
             .spawn(move || accept_links(rt, board, listener, hosts))
-            .is_err()
-        {
-            return Err(RunFault::Memory);
-        }
-        run_desk(rt, board, operator, doors)
+            .is_ok();
+        run_desk(rt, board, operator, doors, links)
     })
 }
 
@@ -252,34 +249,34 @@ fn may_greet(hosts: &Option<Vec<IpAddr>>, member: u8, host: IpAddr) -> bool {
     }
 }
 
-/// Takes clients in until the operator ends the chain.
+/// Takes clients in until the operator ends the chain, where links are taken in. Ends all threads.
 fn run_desk<O: Operator, R: Machine>(
     rt: &R,
     board: &Switchboard,
     operator: &mut O,
     doors: &FrontDoors,
+    started: bool,
 ) -> Result<(), RunFault> {
     thread::scope(thread::scope_env(), rt, |scope| -> Result<(), RunFault> {
         let listener = &doors.desk.listener;
-        if scope
+        let clients = scope
             .spawn(move || accept_clients(rt, board, listener))
-            .is_err()
-        {
-            return Err(RunFault::Memory);
-        }
-        run_local(rt, board, operator, doors)
+            .is_ok();
+        run_local(rt, board, operator, doors, started && clients)
     })
 }
 
-/// Takes clients of this machine in, if they have a door, until the operator ends the chain.
+/// Takes clients of this machine in, if they have a door, and waits for the operator to end the
+/// chain, where all other threads were started. Ends all threads.
 fn run_local<O: Operator, R: Machine>(
     rt: &R,
     board: &Switchboard,
     operator: &mut O,
     doors: &FrontDoors,
+    started: bool,
 ) -> Result<(), RunFault> {
     thread::scope(thread::scope_env(), rt, |scope| -> Result<(), RunFault> {
-        let started = match &doors.local {
+        let locals = match &doors.local {
             Some(door) => {
                 let listener = &door.listener;
                 scope
@@ -288,9 +285,10 @@ fn run_local<O: Operator, R: Machine>(
             }
             None => true,
         };
-        let end = if started {
+        let end = if started && locals {
             operator.until_end()
         } else {
+            operator.unstarted();
             Err(RunFault::Memory)
         };
         board.end(rt);

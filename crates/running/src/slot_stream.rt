@@ -397,6 +397,7 @@ impl<D: Disk, J: Life, R: Wait> SlotLines<'_, D, J, R> {
         if self.socket.write_all(b"UNDECIDED\n").is_err() {
             return Err(StreamFault);
         }
+        self.shared.hear_client(self.rt, self.slot);
         let length = self.said.line_end().unwrap_or(self.said.bytes().len());
         self.said.drop_front(length.saturating_add(1));
         if is_over {
