@@ -22,6 +22,7 @@ use process::Watched;
 use running::{Addresses, Fronts, InChain, Operator, Start, run_fronts, run_member};
 use settings::Settings;
 use std::alloc::{AllocError, Global};
+use std::fs::File;
 use std::marker::Brand;
 use std::net::{IpAddr, SocketAddr};
 use std::os::unix::net::UnixListener;
@@ -31,6 +32,12 @@ use std::time::Duration;
 use std::{io, thread};
 use terms::{Header, Memory};
 use troubles::{Failure, Fault, Trouble, Whereabouts, trouble_of};
+
+/// The most times that an epoch tries to begin while the process has too few files left.
+const FILE_TRIES: u32 = 120;
+
+/// The number of files that are enough for the begin of an epoch.
+const FILES: u32 = 8;
 
 /// The things that the epochs of a process were given.
 #[derive(Drop)]
@@ -50,6 +57,8 @@ pub(crate) struct Chained<'a> {
     failed: Mutex<Option<Failure>>,
     /// Set once links and clients are taken in.
     listens: AtomicBool,
+    /// Set where the system refused a thread without which none are.
+    unstarted: AtomicBool,
 }
 
 impl Chained<'_> {
@@ -100,14 +109,34 @@ impl Chained<'_> {
         doors: Doors,
     ) -> Result<(), Failure> {
         let host = &self.host;
-        refuse_forgotten(host, epoch.path, epoch.header.me())?;
-        self.make_journals(rt, epoch.number)?;
+        self.await_journal(rt, epoch)?;
         let (disk, source) = open_good_disk::<P>(host, epoch.path, Purpose::Run)?;
         let member = open_to_run(host, &source, disk, &epoch.header)?;
         let addresses = self
             .addresses_at(epoch.number, doors)
             .map_err(|_| Fault::Memory)?;
         self.run_opened(rt, epoch, &source, member, addresses)
+    }
+
+    /// Makes the journal of an epoch, if there is none, and waits until it can be opened, for half
+    /// a minute at most: while the process has too few files left, as while many connections are to
+    /// greet, this is tried again.
+    fn await_journal<R: Machine>(&self, rt: &R, epoch: &Epoch<'_>) -> Result<(), Failure> {
+        for _ in 0..FILE_TRIES {
+            let begun = self.begin_journal(rt, epoch);
+            if self.board.is_ended() || has_files(&self.host) {
+                return begun;
+            }
+            thread::sleep(rt, Duration::from_millis(250));
+        }
+        self.begin_journal(rt, epoch)
+    }
+
+    /// Makes the journal of an epoch, if there is none. One beside a journal that was put aside is
+    /// refused.
+    fn begin_journal<R: Machine>(&self, rt: &R, epoch: &Epoch<'_>) -> Result<(), Failure> {
+        refuse_forgotten(&self.host, epoch.path, epoch.header.me())?;
+        self.make_journals(rt, epoch.number)
     }
 
     /// Makes the journals of the epochs up to this one that have none, one after the other, and
@@ -248,6 +277,20 @@ impl Chained<'_> {
     }
 }
 
+/// Returns `true` if the system gives the process enough files for the begin of an epoch.
+fn has_files(host: &HostRuntime) -> bool {
+    let mut held = Vec::new(host.alloc());
+    for _ in 0..FILES {
+        let Ok(file) = File::open(host, "/") else {
+            return false;
+        };
+        if held.push(file).is_err() {
+            return false;
+        }
+    }
+    true
+}
+
 /// An epoch, and its journal.
 #[derive(Clone, Copy, Drop)]
 struct Epoch<'a> {
@@ -365,6 +408,7 @@ fn prepare<'a>(host: &HostRuntime, order: &ChainOrder<'a>) -> Result<Chained<'a>
         made: Mutex::new(0),
         failed: Mutex::new(None),
         listens: AtomicBool::new(false),
+        unstarted: AtomicBool::new(false),
     })
 }
 
@@ -440,6 +484,7 @@ fn open_doors<R: Machine>(
         board: &it.board,
         unheard,
         listens: &it.listens,
+        unstarted: &it.unstarted,
     };
     let end = run_fronts(rt, &it.board, fronts, &mut operator);
     *closed.lock(rt) = end;
@@ -454,6 +499,8 @@ struct FrontOperator<'a, R> {
     unheard: &'a Unheard,
     /// Set once links and clients are taken in.
     listens: &'a AtomicBool,
+    /// Set where the system refused a thread.
+    unstarted: &'a AtomicBool,
 }
 
 impl<R: Machine> Operator for FrontOperator<'_, R> {
@@ -469,6 +516,10 @@ impl<R: Machine> Operator for FrontOperator<'_, R> {
 
     fn unheard(&mut self, address: SocketAddr, error: &io::Error) {
         *self.unheard.lock(self.rt) = Some((address, error.raw_os_error().unwrap_or(0)));
+    }
+
+    fn unstarted(&mut self) {
+        self.unstarted.store(true, Ordering::SeqCst);
     }
 }
 
@@ -566,6 +617,9 @@ fn chain_failure<R: Machine>(
     let known = *unheard.lock(rt);
     if let Some((address, code)) = known {
         console.unheard(address, &io::Error::from_raw_os_error(code));
+    }
+    if it.unstarted.load(Ordering::SeqCst) {
+        console.unstarted();
     }
     Failure {
         fault: Fault::Run(fault),

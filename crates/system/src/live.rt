@@ -116,6 +116,7 @@ impl<'a> Console<'a> {
             match input.read(&mut piece) {
                 Ok(0) => return Ok(()),
                 Ok(_) => {}
+                Err(error) if error.kind() == io::ErrorKind::Interrupted => {}
                 Err(_) => return Err(RunFault::Stream),
             }
         }
