@@ -4,3 +4,6 @@ pub mod Waiting
 pub mod Placing
 pub mod Tokens
 pub mod Printing
+pub mod Marking
+pub mod Proving
+pub mod Telling

@@ -5,3 +5,6 @@ pub mod Times
 pub mod Deadlines
 pub mod Plans
 pub mod Polls
+pub mod Marks
+pub mod Hearsay
+pub mod Statings

@@ -27,6 +27,13 @@ is_decided Undecided = false
 is_decided (Decided bit) = true
 is_decided Other = false
 
+-- the word of a member that replied nothing
+abbrev pub is_silent : Word → Bool
+is_silent Silent = true
+is_silent Undecided = false
+is_silent (Decided bit) = false
+is_silent Other = false
+
 -- the bit that a member told is the reading's, if it told one and there is such a member; and nothing else is
 pub record Takes (old : Reading) (member : ℕ) (bit : Option Bool) (new : Reading) : Type 0 where
   pub told : (one : Bool) (words : List (ℕ × Bool)) → bit ≡ Some one → member < (size_of old).n → Reads old words

@@ -1,7 +1,7 @@
 //! The commands `propose`, `ask`, `status` and `transcript`: a line to the desk of a member that
 //! runs.
 
-ghost use Rattle.std.specs.Prelude.{ℕ, Bool, List, [], ◌≡◌, ◌∷◌, ◌++◌, ◌<◌, ◌≤◌, ◌↔◌, IfErr, IfOk, IfSome, IsSomeAnd, IsTrue, false, slice_get, true};
+ghost use Rattle.std.specs.Prelude.{ℕ, Bool, List, [], ◌≡◌, ◌∷◌, ◌++◌, ◌<◌, ◌≤◌, ◌↔◌, IfErr, IfOk, IfSome, IsSomeAnd, IsTrue, Some, ◌^◌, false, slice_get, true};
 ghost use Rattle.std.specs.Io.KnownBytes.{Appends};
 ghost use Rattle.commands.specs.Replies.{IsReplyLine, SaysSame};
 ghost use Rattle.commands.specs.Talks.{HasReadyStatus, HasStatus};
@@ -105,9 +105,12 @@ fn print_transcript(
 
 /// Returns the question that a reply names, if its first line begins a transcript.
 fn question_named(reply: &[u8]) -> Option<u16>
-    ensures { IfSome result
+    ensures some { IfSome result
         (λ question. IsSomeAnd (slice_get (lines_in reply.now) 0)
         (λ head. (bit : Bool) × (count : ℕ) × (head ≡ head_line question bit count))) }
+    ensures exact { (question : ℕ) (bit : Bool) (count : ℕ) → question < 2 ^ 16 → count < 2 ^ 64 →
+        slice_get (lines_in reply.now) 0 ≡ Some (head_line question bit count) →
+        result ≡ Some question }
 {
     match line_at(reply, 1) {
         Some(head) => question_in(head),

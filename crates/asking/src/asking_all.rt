@@ -1,10 +1,11 @@
 //! A question that is asked of all members of a cluster, or proposed to them: begin at `ask_all`
 //! and `decide`.
 
-ghost use Rattle.std.specs.Prelude.{ℕ, Bool, List, ◌≡◌, ◌≤◌, ◌↔◌, IfErr, IfOk, IsOk, None, Some, if◌then◌else◌, unwrap_or};
+ghost use Rattle.std.specs.Prelude.{ℕ, Bool, List, ◌≡◌, ◌≤◌, ◌↔◌, IfErr, IfOk, IsOk, None, Some, if◌then◌else◌, length, unwrap_or};
+ghost use Rattle.std.specs.List.{filter};
 ghost use Rattle.client.specs.Readings.{Reads, size_of};
 ghost use Rattle.asking.specs.Plans.{Asks, Proposes};
-ghost use Rattle.asking.specs.Polls.{HasStatusFor, IsReplaced, IsWordOf, TellsWords, bit_of};
+ghost use Rattle.asking.specs.Polls.{HasStatusFor, IsReplaced, IsWordOf, TellsWords, bit_of, is_silent};
 ghost use Rattle.asking.specs.declared.calls.Manner.TheVariants as manner;
 ghost use Rattle.troubles.specs.declared.fault.Fault.TheVariants as ends;
 
@@ -297,10 +298,10 @@ struct Survey {
 }
 
 impl Survey {
-    ghost use Rattle.std.specs.Prelude.{ℕ, Bool, List, [], ◌≡◌, IfOk};
-    ghost use Rattle.std.specs.List.{list_all};
+    ghost use Rattle.std.specs.Prelude.{ℕ, Bool, List, [], ◌≡◌, ◌≤◌, ◌↔◌, IfOk, IsTrue, length};
+    ghost use Rattle.std.specs.List.{filter, list_all};
     ghost use Rattle.client.specs.Readings.{Reads, size_of};
-    ghost use Rattle.asking.specs.Polls.{IsWordOf, Notes, is_decided};
+    ghost use Rattle.asking.specs.Polls.{IsWordOf, Notes, is_decided, is_silent};
     ghost use Rattle.commands.specs.declared.survey.Word.{Word};
 
     /// A survey of a cluster of that size, before any member said something.
@@ -352,15 +353,27 @@ impl Survey {
         self.known.count_ones() == u32::from(self.size.n())
     }
 
-    /// Returns `true` if as many members replied as are correct at least.
-    fn is_heard(&self) -> bool {
-        let silent = self
-            .words
-            .iter()
-            .filter(|word| matches!(word, Word::Silent))
-            .count();
-        silent <= usize::from(self.size.t())
+    /// Returns `true` if as many members replied as are correct at least: all but t.
+    fn is_heard(&self) -> bool
+        ensures { IsTrue result
+            ↔ length (filter is_silent self.now.words.items) ≤ self.now.size.t }
+    {
+        silent_words(&self.words) <= usize::from(self.size.t())
     }
+}
+
+/// Returns how many members replied nothing.
+fn silent_words(words: &[Word]) -> usize
+    ensures { result ≡ length (filter is_silent words.now) }
+{
+    words.iter().filter(|word| is_silent(**word)).count()
+}
+
+/// Returns `true` if a member replied nothing.
+fn is_silent(word: Word) -> bool
+    ensures { result ≡ is_silent word }
+{
+    matches!(word, Word::Silent)
 }
 
 /// Returns the word that a member's reply is, or that none came.

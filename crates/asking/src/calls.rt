@@ -8,7 +8,7 @@ ghost use Rattle.std.specs.Io.{ReadsAtMost, WritesAtMost};
 
 use crate::board::Board;
 use crate::callers::Caller;
-use crate::desks::{CONNECT, Deadline, MOST_READ, REST, TALK};
+use crate::desks::{CONNECT, Deadline, MOST_READ, REST, TALK, TRIES};
 use crate::sockets::socket_address;
 use commands::{Next, exchange, fetch_epochs, fetch_transcript, next_of, word_of};
 use settings::Address;
@@ -17,7 +17,7 @@ use std::io::{self, BufReader, Read, Write};
 use std::net::TcpStream;
 use std::sync::Arc;
 use std::thread;
-use std::time::Duration;
+use std::time::{Clock, Duration};
 
 /// The milliseconds for which the other members are waited for once there is a decision or a
 /// verdict, so that people learn of them.
@@ -183,31 +183,63 @@ struct CallStream<'a, R: 'static> {
 
 impl<'a, R: Caller + 'static> Read for CallStream<'a, R> {
     fn read(&mut self, piece: &mut [u8]) -> io::Result<usize> {
-        let limit = self.deadline.left(self.rt, TALK)?;
-        self.socket.set_read_timeout(Some(limit))?;
         if self.room == 0 {
             return Err(io::Error::from(io::ErrorKind::InvalidData));
         }
-        match read_from(self.socket, piece) {
-            Ok(read) => {
-                self.room = self.room.saturating_sub(read);
-                Ok(read)
+        for _ in 0..TRIES {
+            match read_once(self.rt, self.socket, self.deadline, piece) {
+                Ok(read) => {
+                    self.room = self.room.saturating_sub(read);
+                    return Ok(read);
+                }
+                Err(error) if error.kind() == io::ErrorKind::Interrupted => {}
+                Err(error) => return Err(error),
             }
-            Err(error) => Err(error),
         }
+        Err(io::Error::from(io::ErrorKind::Interrupted))
     }
 }
 
 impl<'a, R: Caller + 'static> Write for CallStream<'a, R> {
     fn write(&mut self, piece: &[u8]) -> io::Result<usize> {
-        let limit = self.deadline.left(self.rt, TALK)?;
-        self.socket.set_write_timeout(Some(limit))?;
-        write_to(self.socket, piece)
+        for _ in 0..TRIES {
+            match write_once(self.rt, self.socket, self.deadline, piece) {
+                Err(error) if error.kind() == io::ErrorKind::Interrupted => {}
+                done => return done,
+            }
+        }
+        Err(io::Error::from(io::ErrorKind::Interrupted))
     }
 
     fn flush(&mut self) -> io::Result<()> {
         Ok(())
     }
+}
+
+/// Reads once, within the time.
+fn read_once<R: Clock>(
+    rt: &R,
+    socket: &TcpStream,
+    deadline: Deadline,
+    piece: &mut [u8],
+) -> io::Result<usize>
+    ensures bound { ReadsAtMost result piece.new }
+{
+    socket.set_read_timeout(Some(deadline.left(rt, TALK)?))?;
+    read_from(socket, piece)
+}
+
+/// Writes once, within the time.
+fn write_once<R: Clock>(
+    rt: &R,
+    socket: &TcpStream,
+    deadline: Deadline,
+    piece: &[u8],
+) -> io::Result<usize>
+    ensures bound { WritesAtMost result piece.now }
+{
+    socket.set_write_timeout(Some(deadline.left(rt, TALK)?))?;
+    write_to(socket, piece)
 }
 
 /// Reads what there is.

@@ -222,6 +222,10 @@ impl DeskSocket {
 /// The most bytes that are read over a connection, as many as a file of a transcript may have.
 pub const MOST_READ: usize = 33_554_432;
 
+/// The most times that a read or a write is tried which a signal interrupts, as those do that stop
+/// the process and let it go on.
+pub(crate) const TRIES: u32 = 1_000_000;
+
 /// A talk with a desk that has an end: each read and each write waits for what is left of the time.
 #[derive(Drop)]
 pub struct Talk<'a> {
@@ -233,6 +237,9 @@ pub struct Talk<'a> {
 }
 
 impl<'a> Talk<'a> {
+    ghost use Rattle.std.specs.Io.{ReadsAtMost, WritesAtMost};
+    ghost use Rattle.std.specs.Prelude.{◌≡◌};
+
     /// The talk over this connection, of which 33,554,432 bytes are read at most.
     pub fn new(rt: &'a HostRuntime, socket: &'a DeskSocket, deadline: Deadline) -> Talk<'a>
         ensures { result.deadline ≡ deadline }
@@ -244,29 +251,53 @@ impl<'a> Talk<'a> {
             room: MOST_READ,
         }
     }
+
+    /// Reads once, within the time.
+    fn read_once(&self, piece: &mut [u8]) -> io::Result<usize>
+        ensures bound { ReadsAtMost result piece.new }
+    {
+        self.socket.read_within(self.deadline.left(self.rt, TALK)?)?;
+        self.socket.read_some(piece)
+    }
+
+    /// Writes once, within the time.
+    fn write_once(&self, piece: &[u8]) -> io::Result<usize>
+        ensures bound { WritesAtMost result piece.now }
+    {
+        self.socket
+            .write_within(self.deadline.left(self.rt, TALK)?)?;
+        self.socket.write_some(piece)
+    }
 }
 
 impl<'a> Read for Talk<'a> {
     fn read(&mut self, piece: &mut [u8]) -> io::Result<usize> {
-        self.socket.read_within(self.deadline.left(self.rt, TALK)?)?;
         if self.room == 0 {
             return Err(io::Error::from(io::ErrorKind::InvalidData));
         }
-        match self.socket.read_some(piece) {
-            Ok(read) => {
-                self.room = self.room.saturating_sub(read);
-                Ok(read)
+        for _ in 0..TRIES {
+            match self.read_once(piece) {
+                Ok(read) => {
+                    self.room = self.room.saturating_sub(read);
+                    return Ok(read);
+                }
+                Err(error) if error.kind() == io::ErrorKind::Interrupted => {}
+                Err(error) => return Err(error),
             }
-            Err(error) => Err(error),
         }
+        Err(io::Error::from(io::ErrorKind::Interrupted))
     }
 }
 
 impl<'a> Write for Talk<'a> {
     fn write(&mut self, piece: &[u8]) -> io::Result<usize> {
-        self.socket
-            .write_within(self.deadline.left(self.rt, TALK)?)?;
-        self.socket.write_some(piece)
+        for _ in 0..TRIES {
+            match self.write_once(piece) {
+                Err(error) if error.kind() == io::ErrorKind::Interrupted => {}
+                done => return done,
+            }
+        }
+        Err(io::Error::from(io::ErrorKind::Interrupted))
     }
 
     fn flush(&mut self) -> io::Result<()> {

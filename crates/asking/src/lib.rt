@@ -10,6 +10,7 @@ mod clients;
 mod desks;
 mod gate;
 mod hearsay;
+mod known;
 mod patience;
 mod readings;
 mod sockets;

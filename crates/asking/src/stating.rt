@@ -1,17 +1,22 @@
 //! A line for all members of a cluster, and the reply of each: begin at `propose_to_all`,
 //! `status_of_all` and `epochs_of_all`.
 
+ghost use Rattle.std.specs.Prelude.{ℕ, List, ◌≡◌, ◌≤◌, IfOk, Some, option_map, string_bytes};
+ghost use Rattle.std.specs.Io.KnownBytes.{Appends};
+ghost use Rattle.commands.specs.Talks.{HasStatus};
+ghost use Rattle.asking.specs.Statings.{AreTold, HasStatusOf, HasStatusOfAll, IsPlaced, IsToldLine, line_for, reply_texts, wants_ready, words_for};
+
 use crate::board::News;
 use crate::callers::{Caller, Calls, Cluster, Lines};
 use crate::calls::Manner;
 use crate::clients::read_client;
 use commands::{
-    TalkFault, Told, epochs_line, links_line, propose_line, ready_status, state_line, status_line,
+    Told, epochs_line, links_line, propose_line, ready_status, state_line, status_line,
     tell_epochs, tell_object_of, tell_of, told_of,
 };
 use settings::ClientSettings;
 use std::alloc::{AllocError, Global};
-use std::io;
+use std::io::{self, Write};
 use troubles::{Failure, Fault};
 
 /// The part of a member's state that is asked for, and its form.
@@ -39,7 +44,9 @@ pub fn propose_to_all<R: Caller>(
     cluster: &Cluster<'_>,
     question: u16,
     bit: u8,
-) -> Result<u8, Failure> {
+) -> Result<u8, Failure>
+    ensures { IfOk result (λ status. status ≤ 1) }
+{
     let client = read_client(host, cluster.file)?;
     let line = propose_line(host.alloc(), question, bit).map_err(|_| Fault::Memory)?;
     let lines = lines_of(host.alloc(), Manner::Once, line);
@@ -50,7 +57,7 @@ pub fn propose_to_all<R: Caller>(
         question: None,
         json: false,
     };
-    tell_all(host, &all, form)
+    tell_all(host.alloc(), &all.replies, form, &mut io::writer(host))
 }
 
 /// Asks each member of the cluster for its state, all at once, and prints a line `member M REPLY`
@@ -60,16 +67,20 @@ pub fn status_of_all<R: Caller>(
     host: &HostRuntime,
     cluster: &Cluster<'_>,
     form: StateForm,
-) -> Result<u8, Failure> {
+) -> Result<u8, Failure>
+    ensures { IfOk result (λ status. status ≤ 1) }
+{
     let client = read_client(host, cluster.file)?;
     let line = line_for(host.alloc(), form).map_err(|_| Fault::Memory)?;
     let lines = lines_of(host.alloc(), Manner::Once, line);
     let all = Replies::gather(rt, host, cluster, &client, lines)?;
-    tell_all(host, &all, form)
+    tell_all(host.alloc(), &all.replies, form, &mut io::writer(host))
 }
 
-/// The line that asks for the state.
-fn line_for(alloc: Global, form: StateForm) -> Result<String, AllocError> {
+/// Returns the line that asks for what the form has.
+fn line_for(alloc: Global, form: StateForm) -> Result<String, AllocError>
+    ensures { IfOk result (λ text. string_bytes text ≡ line_for form) }
+{
     if let Some(question) = form.question {
         return state_line(alloc, question);
     }
@@ -82,34 +93,100 @@ fn line_for(alloc: Global, form: StateForm) -> Result<String, AllocError> {
 
 /// Prints the replies by their members' numbers. The status is the highest of any; of members that
 /// are to be ready, that of their links.
-fn tell_all(host: &HostRuntime, all: &Replies, form: StateForm) -> Result<u8, Failure> {
+fn tell_all<W: Write>(
+    alloc: Global,
+    replies: &[Option<Vec<u8>>],
+    form: StateForm,
+    output: &mut W,
+) -> Result<u8, Failure>
+    ensures bound { IfOk result (λ status. status ≤ 1) }
+    ensures status { IfOk result
+        (HasStatusOfAll (wants_ready form) (reply_texts replies.now)) }
+{
     let mut status = 0;
     let mut member = 0u8;
-    for reply in &all.replies {
-        let told = tell_one(host, member, reply, form.json).map_err(|fault| Fault::Talk(fault))?;
-        status = status.max(match reply {
-            Some(reply) if form.ready && form.question.is_none() => ready_status(reply),
-            _ => told,
-        });
+    for reply in replies {
+        let told = tell_one(alloc, member, reply, form, output)?;
+        status = status.max(told);
         member = member.saturating_add(1);
     }
     Ok(status)
 }
 
-/// Prints the reply of a member, or that there is none. The status is that of the reply.
-fn tell_one(
-    host: &HostRuntime,
+/// Prints the reply of a member, or that there is none. The status is that of the reply, or, of a
+/// member that is to be ready, that of its links.
+fn tell_one<W: Write>(
+    alloc: Global,
     member: u8,
     reply: &Option<Vec<u8>>,
-    json: bool,
-) -> Result<u8, TalkFault> {
-    let mut output = io::writer(host);
+    form: StateForm,
+    output: &mut W,
+) -> Result<u8, Fault>
+    ensures status { IfOk result (HasStatusOf (wants_ready form)
+        (option_map (λ sent. sent.items) reply.now)) }
+    ensures text { IfOk result (λ _. (text : List ℕ) × IsToldLine form.json member
+        (words_for (option_map (λ sent. sent.items) reply.now)) text
+        × Appends (W.contents output.old) (W.contents output.new) text) }
+{
     match reply {
-        Some(reply) if json => tell_object_of(host.alloc(), member, reply, &mut output),
-        Some(reply) => tell_of(host.alloc(), member, reply, &mut output),
-        None if json => tell_object_of(host.alloc(), member, NO_ANSWER, &mut output),
-        None => tell_of(host.alloc(), member, NO_ANSWER, &mut output),
+        Some(reply) => tell_reply(alloc, member, reply, form, output),
+        None => {
+            tell_words(alloc, member, NO_ANSWER, form.json, output)?;
+            Ok(1)
+        }
     }
+}
+
+/// Prints the reply of a member. The status is that of the reply, or, of a member that is to be
+/// ready, that of its links.
+fn tell_reply<W: Write>(
+    alloc: Global,
+    member: u8,
+    reply: &[u8],
+    form: StateForm,
+    output: &mut W,
+) -> Result<u8, Fault>
+    ensures status { IfOk result (HasStatusOf (wants_ready form) (Some reply.now)) }
+    ensures text { IfOk result (λ _. (text : List ℕ) × IsToldLine form.json member reply.now text
+        × Appends (W.contents output.old) (W.contents output.new) text) }
+{
+    let told = tell_words(alloc, member, reply, form.json, output)?;
+    if wants_ready(form) {
+        return Ok(ready_status(reply));
+    }
+    Ok(told)
+}
+
+/// Prints a reply of a member, or the words for none, as a line or as an object. The status is that
+/// of the reply.
+fn tell_words<W: Write>(
+    alloc: Global,
+    member: u8,
+    words: &[u8],
+    json: bool,
+    output: &mut W,
+) -> Result<u8, Fault>
+    ensures status { IfOk result (HasStatus words.now) }
+    ensures text { IfOk result (λ _. (text : List ℕ) × IsToldLine json member words.now text
+        × Appends (W.contents output.old) (W.contents output.new) text) }
+{
+    if json {
+        return match tell_object_of(alloc, member, words, output) {
+            Ok(status) => Ok(status),
+            Err(fault) => Err(Fault::Talk(fault)),
+        };
+    }
+    match tell_of(alloc, member, words, output) {
+        Ok(status) => Ok(status),
+        Err(fault) => Err(Fault::Talk(fault)),
+    }
+}
+
+/// Returns `true` if the members are to be ready.
+fn wants_ready(form: StateForm) -> bool
+    ensures { result ≡ wants_ready form }
+{
+    form.ready && form.question.is_none()
 }
 
 /// Asks each member of the cluster which epochs it has closed, all at once, and prints a line
@@ -121,12 +198,15 @@ pub fn epochs_of_all<R: Caller>(
     host: &HostRuntime,
     cluster: &Cluster<'_>,
     json: bool,
-) -> Result<u8, Failure> {
+) -> Result<u8, Failure>
+    ensures { IfOk result (λ status. status ≤ 1) }
+{
     let client = read_client(host, cluster.file)?;
     let line = String::from_str(host.alloc(), epochs_line()).map_err(|_| Fault::Memory)?;
     let lines = lines_of(host.alloc(), Manner::Epochs, line);
     let all = Replies::gather(rt, host, cluster, &client, lines)?;
-    let words = words_of(host.alloc(), all)?;
+    let Replies { replies, open: _ } = all;
+    let words = words_of(host.alloc(), replies)?;
     match tell_epochs(host.alloc(), &words, json, &mut io::writer(host)) {
         Ok(status) => Ok(status),
         Err(fault) => Err(Failure::from(Fault::Talk(fault))),
@@ -142,12 +222,13 @@ fn lines_of(alloc: Global, manner: Manner, first: String) -> Lines {
     }
 }
 
-/// The words of the members on their epochs, by their numbers.
-fn words_of(alloc: Global, all: Replies) -> Result<Vec<Told>, Fault> {
-    let Replies { replies, open: _ } = all;
+/// Returns the words of the members on their epochs, by their numbers.
+fn words_of(alloc: Global, replies: Vec<Option<Vec<u8>>>) -> Result<Vec<Told>, Fault>
+    ensures { IfOk result (λ words. AreTold (reply_texts replies.items) words.items) }
+{
     let mut words = Vec::new(alloc);
     for reply in replies {
-        words.push(told_of(reply)).map_err(|_| Fault::Memory)?;
+        words.push(told_of(reply))?;
     }
     Ok(words)
 }
@@ -161,11 +242,17 @@ struct Replies {
 }
 
 impl Replies {
+    ghost use Rattle.std.specs.Prelude.{◌≡◌, ◌-◌, IfOk, None, replicate};
+    ghost use Rattle.asking.specs.Statings.{IsPlaced};
+
     /// No reply of so many members.
-    fn new(alloc: Global, n: u8) -> Result<Replies, Fault> {
+    fn new(alloc: Global, n: u8) -> Result<Replies, Fault>
+        ensures none { IfOk result (λ all. all.replies.items ≡ replicate n None) }
+        ensures unknown { IfOk result (λ all. all.open ≡ n) }
+    {
         let mut replies = Vec::new(alloc);
-        for _ in 0..n {
-            replies.push(None).map_err(|_| Fault::Memory)?;
+        for _member in 0..n {
+            replies.push(None)?;
         }
         Ok(Replies { replies, open: n })
     }
@@ -196,10 +283,23 @@ impl Replies {
     }
 
     /// Takes a member's reply, or that it doesn't answer.
-    fn take(&mut self, news: News) {
+    fn take(&mut self, news: News)
+        ensures placed { IsPlaced self.old.replies.items news.member news.reply
+            self.new.replies.items }
+        ensures unknown { self.new.open ≡ self.old.open - 1 }
+    {
+        let News { member, reply } = news;
         self.open = self.open.saturating_sub(1);
-        if let Some(place) = self.replies.get_mut(usize::from(news.member)) {
-            *place = news.reply;
-        }
+        place(&mut self.replies, member, reply);
+    }
+}
+
+/// Puts a member's reply in its place, if there is such a member.
+fn place(replies: &mut Vec<Option<Vec<u8>>>, member: u8, reply: Option<Vec<u8>>)
+    ensures { IsPlaced replies.old.items member reply replies.new.items }
+{
+    match replies.get_mut(usize::from(member)) {
+        Some(place) => *place = reply,
+        None => {}
     }
 }

@@ -17,3 +17,4 @@ pub mod Staging
 pub mod Showing
 mod Waiting
 mod SameObjects
+pub mod Heads
