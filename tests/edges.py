@@ -4,7 +4,7 @@
 Looks at the edges of the built program for what a user would suffer from and no contract says: how long a client waits, which
 statuses commands end with, whose links a member takes, what it opens and says more often than it should, what a command leaves
 behind. Plays the checks that are named, else all. PROGRAM is crates/bracha/out/bracha unless another is named. It takes the ports
-28400 to 29659, a C compiler, and a minute and a half, with a process for each check and a dozen at a time. Prints what is wrong, and in
+28400 to 29779, a C compiler, and a minute and a half, with a process for each check and a dozen at a time. Prints what is wrong, and in
 its last line `N passed, M failed`; the status is 1 where M isn't 0.
 """
 import concurrent.futures
@@ -1092,7 +1092,21 @@ def decide_believes_more_than_t(folder, port):
         path = cluster_file(folder, "stopped", [port + 10, port + 8, port + 11, port + 12])
         silent = "".join(f"bracha: member {it} doesn't answer\n" for it in (1, 3))
         said, status, took = timed(["decide", "--all", "--timeout", "5", path, "5", "0"], folder)
-        return found + differs("stopped members", (said, status, took < 3), ("DECIDED 1\n" + silent, 0, True))
+        found += differs("stopped members", (said, status, took < 3), ("DECIDED 1\n" + silent, 0, True))
+    seen = []
+
+    def comes_back(link):
+        """A member that is stopped while its decision is waited for, and is there again when it is asked anew."""
+        port_of = link.getsockname()[1]
+        seen.append(port_of)
+        for line in link.makefile("rb"):
+            waits = b"DECIDED 1\n" if seen.count(port_of) > 1 else b"STOPPED\n"
+            link.sendall(b"OK\n" if line.startswith(b"PROPOSE") else waits)
+
+    with serving(port + 13, comes_back), serving(port + 14, comes_back):
+        path = cluster_file(folder, "back", [port + 13, port + 8, port + 14, port + 12])
+        said, status, took = timed(["decide", "--all", "--timeout", "5", path, "5", "1"], folder)
+        return found + differs("members that come back", (said, status, took < 3), ("DECIDED 1\n" + silent, 0, True))
 
 
 @check
@@ -1368,6 +1382,10 @@ def any_host_and_another_address(folder, port):
             found = differs("a link from any host, to any address of this one", len(link.recv(11, socket.MSG_WAITALL)), 11)
         with socket.socket() as other:
             found += differs("its entry of the peers", other.connect_ex(("127.0.0.1", port)), errno.ECONNREFUSED)
+    chain = of_a_chain(folder, 1, peers, f"127.0.0.1:{port + 10}", 4, 1)
+    with running(chain, "--any-host"), dial(port + 1, "127.0.0.9") as link:
+        link.sendall(hello(2, 1, questions=4))
+        found += differs("a link from any host to a member of a chain", len(link.recv(11, socket.MSG_WAITALL)), 11)
     return found + differs("the warning", lines_of(path)[:1], ["bracha: --any-host is unsafe: any host may speak for any member"])
 
 
@@ -1562,6 +1580,27 @@ def a_disk_that_stalls(folder, port):
 
 
 @check
+def a_client_that_is_stopped_goes_on(folder, port):
+    """A client that waits for a reply is stopped, as by Ctrl-Z, and let go on: it waits for what is left of its time."""
+    def answers(link):
+        link.recv(64)
+        time.sleep(2)
+        link.sendall(b"UP 3 0\n")
+
+    path = client_file(folder, [port])
+    found = []
+    with serving(port, answers):
+        for words in (["status", f"127.0.0.1:{port}"], ["status", "--all", path]):
+            process = subprocess.Popen([PROGRAM, *words, "--timeout", "8"], stdout=subprocess.PIPE, text=True)
+            time.sleep(0.7)
+            process.send_signal(signal.SIGSTOP)
+            time.sleep(0.3)
+            process.send_signal(signal.SIGCONT)
+            found += differs(f"{words}", process.communicate(timeout=20)[0].removeprefix("member 0 "), "UP 3 0\n")
+    return found
+
+
+@check
 def threads_that_are_refused(folder, port):
     """While the system gives no thread, connections are closed, and none of their places is lost. It wants root."""
     if os.geteuid() != 0:
@@ -1592,7 +1631,25 @@ def threads_that_are_refused(folder, port):
             found += differs("a client behind them", is_open(client), True)
         if link:
             link.close()
-        return found + differs("the log", soon(lambda: not lacks(path, ["thread refused"])), True)
+        found += differs("the log", soon(lambda: not lacks(path, ["thread refused"])), True)
+    # In a chain another thread takes links in.
+    os.mkdir(f"{folder}/chain")
+    path = of_a_chain(f"{folder}/chain", 0, [f"127.0.0.1:{port + 4}", f"127.0.0.1:{port + 1}"], f"127.0.0.1:{port + 5}", 2, 0)
+    subprocess.run([PROGRAM, "init", path], check=True)
+    subprocess.run(["chown", "-R", "65534:65534", f"{folder}/chain"], check=True)
+    good = lambda: is_welcomed(port + 4, 1, 0, n=2, t=0, questions=4)
+    with running(path, "--log", new=False, executable=program, preexec_fn=as_nobody) as process:
+        # A thread that is refused ends the start of an epoch, and all of them.
+        found += differs("both epochs", soon(lambda: not lacks(path, ["epoch 0 ready", "epoch 1 ready"])), True)
+        limit("--nproc=1:")
+        kept = next((it for it in range(100) if not is_closed(dial(port + 4), 3)), None)
+        found += differs("the first of 100 links to a chain that isn't closed", kept, None)
+        limit("--nproc=4096:")
+        link = soon(good)
+        found += differs("a link to a chain behind them", link is not None, True)
+        if link:
+            link.close()
+    return found
 
 
 @check
@@ -1754,6 +1811,62 @@ def clients_of_a_chain_keep_their_places(folder, port):
 
 
 @check
+def who_waits_at_the_desk_of_an_epoch(folder, port):
+    """While 32 clients have the places of a chain's newest epoch 64 more wait for one, and the next is closed. Those that wait are answered
+    once the others leave."""
+    path = of_a_chain(folder, 0, [f"127.0.0.1:{port}"], f"127.0.0.1:{port + 1}", 1, 0)
+    with running(path), contextlib.ExitStack() as stack:
+        # Each waits for a slot that isn't decided, and keeps its place for ten seconds by that.
+        served = [stack.enter_context(dial(port + 1, timeout=20.0)) for _ in range(32)]
+        found = differs("32 clients", [is_open(it) for it in served], [True] * 32)
+        waiting = []
+        # The first of them is taken out of those that wait, and waits by itself.
+        for _ in range(70):
+            waiting.append(stack.enter_context(dial(port + 1, timeout=20.0)))
+            time.sleep(0.01)
+        closed = [at for at, it in enumerate(waiting) if is_closed(it, 0.01)]
+        found += differs("those that are closed", closed, [65, 66, 67, 68, 69])
+        for link in served:
+            link.close()
+        for link in waiting[:65]:
+            link.sendall(b"STATUS\n")
+            found += differs("one that waited", link.recv(64)[:3], b"UP ")
+            link.close()
+    return found
+
+
+@check
+def a_chain_at_a_path(folder, port):
+    """A member of a chain answers at the path of `desk-socket` too, and a client there, or nobody, doesn't hold its end up."""
+    found = []
+    for name in ("nobody", "silent", "speaks"):
+        os.mkdir(f"{folder}/{name}")
+        more = f'desk-socket = "{folder}/{name}/desk"\n'
+        path = of_a_chain(f"{folder}/{name}", 0, [f"127.0.0.1:{port}"], f"127.0.0.1:{port + 1}", 1, 0, more=more)
+        with running(path, preexec_fn=block_term) as process, contextlib.ExitStack() as stack:
+            if name != "nobody":
+                link = stack.enter_context(socket.socket(socket.AF_UNIX))
+                link.settimeout(5)
+                link.connect(f"{folder}/{name}/desk")
+            if name == "speaks":
+                link.sendall(b"PROPOSE 0 1\nAWAIT 0\n")
+                with contextlib.suppress(OSError):
+                    found += differs("the replies", link.makefile("rb").readlines(13), [b"OK\n", b"DECIDED 1\n"])
+                found += differs("ask", say(["ask", f"unix:{folder}/{name}/desk", "0"], folder), ("DECIDED 1\n", 0))
+                # A read of a client waits for a second at a time.
+                time.sleep(1.5)
+            process.send_signal(signal.SIGTERM)
+            begun = time.monotonic()
+            try:
+                found += differs(f"the status, {name}", process.wait(8), 0)
+            except subprocess.TimeoutExpired:
+                found.append(f"{name}: it goes on for eight seconds")
+            took = time.monotonic() - begun
+            found += differs(f"the end comes at once ({name}, {took:.1f} s)", took < 1.6, True)
+    return found
+
+
+@check
 def who_is_told_something_keeps_its_place(folder, port):
     """A client that says nothing while it waits for decisions, and is told that there are none, isn't one that was silent for long."""
     path = settings(folder, 0, [f"127.0.0.1:{port}"], f"127.0.0.1:{port + 1}", 1, 0)
@@ -1774,16 +1887,56 @@ def who_is_told_something_keeps_its_place(folder, port):
 
 
 @check
+def an_epoch_waits_for_files(folder, port):
+    """A chain has as many files as it wants, and 64 connections that say no Hello take the rest: the next epoch begins once they are closed."""
+    path = of_a_chain(folder, 0, [f"127.0.0.1:{port}"], f"127.0.0.1:{port + 1}", 1, 0)
+    limit = lambda: resource.setrlimit(resource.RLIMIT_NOFILE, (60, 60))
+    with running(path, "--log", preexec_fn=limit) as process, dial(port + 1, timeout=25.0) as client, contextlib.ExitStack() as stack:
+        client.sendall(b"STATUS\n")
+        found = differs("a client before", client.recv(64), b"UP 0 0\n")
+        for _ in range(64):
+            with contextlib.suppress(OSError):
+                stack.enter_context(dial(port))
+        time.sleep(0.5)
+        client.sendall(b"PROPOSE 5 1\n")
+        found += differs("a proposal of the epoch that runs", client.recv(64), b"OK\n")
+        time.sleep(2)
+        found += differs("the process, which lacks files for the next one", process.poll(), None)
+        stack.close()
+        client.sendall(b"PROPOSE 9 1\n")
+        return found + differs("a proposal of the next epoch", client.recv(64), b"OK\n")
+
+
+@check
+def who_is_told_something_in_a_chain_keeps_its_place(folder, port):
+    """A client of a chain that waits for slots of epochs that don't run, and is told that there are none, isn't one that was silent."""
+    path = of_a_chain(folder, 0, [f"127.0.0.1:{port}"], f"127.0.0.1:{port + 1}", 1, 0)
+    with running(path), contextlib.ExitStack() as stack:
+        waits = stack.enter_context(dial(port + 1, timeout=20.0))
+        waits.sendall(b"AWAIT 400\nAWAIT 404\n")
+        others = [stack.enter_context(dial(port + 1, timeout=20.0)) for _ in range(31)]
+        found = differs("the others", [is_open(it) for it in others], [True] * 31)
+        found += differs("the first reply", waits.recv(64), b"UNDECIDED\n")
+        found += differs("the others", [is_open(it) for it in others], [True] * 31)
+        # It goes away before anybody is silent for ten seconds.
+        with dial(port + 1) as another:
+            another.sendall(b"STATUS\n")
+            return found + differs("it is closed", is_closed(waits, 4), False)
+
+
+@check
 def far_slots_are_awaited_for_ten_seconds(folder, port):
     """AWAIT of a slot of an epoch that doesn't run is answered after ten seconds, each time."""
     path = of_a_chain(folder, 0, [f"127.0.0.1:{port}"], f"127.0.0.1:{port + 1}", 1, 0)
-    with running(path), dial(port + 1, timeout=20.0) as link:
+    with running(path) as process, dial(port + 1, timeout=20.0) as link:
         lines, took = link.makefile("rb"), []
         for _ in range(2):
             begun = time.monotonic()
             link.sendall(b"AWAIT 400\n")
             found = differs("the reply", lines.readline(), b"UNDECIDED\n")
             took.append(time.monotonic() - begun)
+        busy = processor_time(process)
+        found += differs(f"seconds of a processor meanwhile ({busy:.1f})", busy < 4, True)
         return found + differs(f"its time ({took})", [8 < it < 14 for it in took], [True, True])
 
 
@@ -1791,13 +1944,14 @@ def far_slots_are_awaited_for_ten_seconds(folder, port):
 def late_decisions_of_a_chain_are_told_once(folder, port):
     """A follower that passed an epoch is told what is decided in it later, once, and an empty line while there is nothing to tell."""
     path = of_a_chain(folder, 0, [f"127.0.0.1:{port}"], f"127.0.0.1:{port + 1}", 1, 0)
-    heard = []
+    heard, times = [], []
 
     def follow():
         with contextlib.suppress(OSError), dial(port + 1, timeout=60.0) as link:
             link.sendall(b"FOLLOW 0\n")
             for line in link.makefile("r"):
                 heard.append(line.strip())
+                times.append(time.monotonic())
 
     with running(path, "--log"):
         found = differs("a slot of the epoch in front", [told(port + 1, it)[0] for it in ("PROPOSE 4 1", "AWAIT 4")], ["OK", "DECIDED 1"])
@@ -1808,13 +1962,23 @@ def late_decisions_of_a_chain_are_told_once(folder, port):
         found += differs("it is told late", soon(lambda: "DECIDED 2 0" in heard, 30), True)
         time.sleep(2)
         found += differs("each once", [it for it in heard if it], ["DECIDED 4 1", "DECIDED 2 0"])
-        return found + differs(f"an empty line now and then ({heard.count('')})", 0 < heard.count("") < 12, True)
+        # Five seconds lie between an empty line and what was told before.
+        rests = [times[at] - times[at - 1] for at in range(1, len(heard)) if heard[at] == ""]
+        return found + differs(f"an empty line now and then ({rests})", len(rests) > 0 and min(rests) > 3, True)
+
+
+def drips(link):
+    """Says a Hello byte by byte, one a second."""
+    with contextlib.suppress(OSError):
+        for byte in hello(1, 0, n=2, t=0, questions=4):
+            link.sendall(bytes([byte]))
+            time.sleep(1)
 
 
 @check
 def links_of_a_chain_have_their_places(folder, port):
-    """The places of those that greet a chain are given back, whatever they say; who says nothing is closed after ten seconds, and a
-    stranger at once."""
+    """The places of those that greet a chain are given back, whatever they say; who says nothing, or no whole Hello, is closed after ten
+    seconds, and a stranger at once."""
     peers = [f"127.0.0.1:{port}", f"127.0.0.2:{port + 2}"]
     path = of_a_chain(folder, 0, peers, f"127.0.0.1:{port + 1}", 2, 0)
     good = lambda: is_welcomed(port, 1, 0, "127.0.0.2", n=2, t=0, questions=4)
@@ -1831,6 +1995,7 @@ def links_of_a_chain_have_their_places(folder, port):
         found += differs("strangers are closed", [is_closed(it, 3) for it in strangers], [True] * 40)
         begun = time.monotonic()
         silent = [stack.enter_context(dial(port, "127.0.0.2")) for _ in range(32)]
+        threading.Thread(target=drips, args=(silent[0],), daemon=True).start()
         time.sleep(0.5)
         found += differs("one more than its host has places", is_closed(dial(port, "127.0.0.2"), 3), True)
         found += differs("who says nothing is closed", [is_closed(it, max(0.1, begun + 14 - time.monotonic())) for it in silent], [True] * 32)
@@ -1845,9 +2010,17 @@ def links_of_a_chain_have_their_places(folder, port):
 
 
 @check
+def a_peer_of_a_chain_that_refuses_is_told_of(folder, port):
+    """A member of a chain logs that a peer closes its links before it accepts them, with the epoch."""
+    path = of_a_chain(folder, 0, [f"127.0.0.1:{port}", f"127.0.0.1:{port + 2}"], f"127.0.0.1:{port + 1}", 2, 0)
+    with serving(port + 2, lambda link: link.recv(18)), running(path, "--log"):
+        return differs("lines that are missing", soon(lambda: not lacks(path, ["epoch 0 link-to 1 refused"]), 8), True)
+
+
+@check
 def chains_that_cannot_go_on(folder, port):
-    """A chain doesn't run with a journal that was put aside, and ends with the cause if an epoch can't begin or its disk is full; what a
-    run that was killed left of a new journal doesn't hold it up."""
+    """A chain doesn't run with a journal that was put aside, and ends with the cause if it can't listen, an epoch can't begin, its disk is
+    full or a journal is damaged; what a run that was killed left of a new journal doesn't hold it up."""
     def no_room():
         signal.signal(signal.SIGXFSZ, signal.SIG_IGN)
         resource.setrlimit(resource.RLIMIT_FSIZE, (25, 25))
@@ -1872,6 +2045,21 @@ def chains_that_cannot_go_on(folder, port):
     os.makedirs(f"{journals}/1.journal.new/file")
     said, status = say(["run", "--stay", path], folder)
     found += differs("a journal that can't be made", (status, "bracha: file\n" in said, f"{journals}/1.journal.new" in said), (1, True, True))
+    for name, at in (("links", 8), ("desk", 9)):
+        path, _ = chain(name, 8)
+        with socket.create_server(("127.0.0.1", port + at)):
+            said, status = say(["run", "--stay", path], folder)
+        words = (f"127.0.0.1:{port + at}", "Address already in use")
+        found += differs(f"an address that is taken ({name}, {said!r})", (status, *(it in said for it in words), " ready\n" in said), (1, True, True, False))
+    path, journals = chain("damaged", 10)
+    with running(path, "--log", new=False) as process:
+        for slot in range(5):
+            found += differs(f"slot {slot}", [told(port + 11, it)[0] for it in (f"PROPOSE {slot} 1", f"AWAIT {slot}")], ["OK", "DECIDED 1"])
+        # Epoch 0 ends in some seconds, and its journal is read then.
+        with open(f"{journals}/0.journal", "r+b") as file:
+            file.write(b"NOTAFILE")
+        found += differs("the status where a journal was damaged", soon(process.poll, 10), 1)
+        found += differs("what is named", soon(lambda: any(f"{journals}/0.journal: " in it for it in lines_of(path)), 1), True)
     path, journals = chain("full", 6)
     with concurrent.futures.ThreadPoolExecutor(1) as pool:
         full = pool.submit(say, ["run", "--stay", "--log", path], folder, preexec_fn=no_room)

@@ -743,8 +743,12 @@ def who_waits_for_a_place_outlasts_the_epoch():
 
 
 def who_waits_for_too_long_is_closed():
-    """While sixteen epochs run in which nothing can be decided, a client of another old one is closed after half a minute."""
+    """While sixteen epochs run in which nothing can be decided, a client of another old one is closed after half a minute. One that says
+    nothing meanwhile, as it may for ten minutes, isn't."""
     with chain(27210, starts=1, questions=2) as it:
+        idle = it.desk(0)
+        idle.ask("STATUS")
+        stream = idle.stream
         clients = [it.desk(0) for _ in range(18)]
         for client, slot in zip(clients, [*range(0, 32, 2), 80, 50]):
             client.connect()
@@ -756,6 +760,20 @@ def who_waits_for_too_long_is_closed():
         took = time.monotonic() - begun
         expect(replies == [b"OK\n"] * 17 + [b""] and 25 < took < 45, f"{replies} after {took:.1f} s")
         expect(it.desk(0).ask("ASK 0", "EPOCHS") == ["UNDECIDED", "EPOCHS 0 40"], "other replies")
+        expect(idle.ask("ASK 0") == ["UNDECIDED"] and idle.stream is stream, "a client that said nothing is cut")
+
+
+def epochs_of_which_nobody_was_heard_stay_open():
+    """A member that comes back while all others are down closes none of the epochs that it missed, however long nothing happens: what the
+    others decided in them is still to be heard."""
+    with chain(27240, starts=1, questions=2) as it:
+        desk = it.desk(0)
+        expect(desk.ask("PROPOSE 6 1") == ["OK"], "another reply")
+        begun = time.monotonic()
+        while time.monotonic() < begun + 13:
+            said = desk.ask("EPOCHS")
+            expect(said == ["EPOCHS 0 3"], f"{said} after {time.monotonic() - begun:.1f} s: {it.log(0)}")
+            time.sleep(0.5)
 
 
 def missed_epochs_are_made_up_for():
@@ -1039,7 +1057,7 @@ def main():
     # These wait for epochs to end, beside the others.
     waiting = [asks_for_closed_epochs, half_decided_epochs_end, late_decisions_are_told_once, epochs_that_run_on_are_told, a_burst_over_an_end_is_told,
                an_await_ends_with_its_epoch, a_client_outlasts_its_epoch, who_waits_for_a_place_outlasts_the_epoch, who_waits_for_too_long_is_closed,
-               missed_epochs_are_made_up_for]
+               epochs_of_which_nobody_was_heard_stay_open, missed_epochs_are_made_up_for]
     if LONG:
         checks, waiting = [lambda: liar_and_kills(100_000, 200, questions=1024, width=256), thousand_epochs], []
     # All folders of the checks are within this one, which goes with the script.

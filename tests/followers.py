@@ -281,7 +281,8 @@ def told_decided(link, lines):
 
 @check
 def few_files_are_for_few_followers(folder, port):
-    """With 256 open files 163 may follow; the next ones are closed, which is told, and all others are served."""
+    """With 256 open files 163 may follow; the next ones are closed, which is told, and all others are served. As many as leave may follow
+    then, and no more."""
     with cluster(folder, port, 4, 1, 64, files=256) as (members, desks), contextlib.ExitStack() as stack:
         links = [stack.enter_context(dial(it)) for it in desks]
         lines = [stack.enter_context(it.makefile("rb")) for it in links]
@@ -296,6 +297,14 @@ def few_files_are_for_few_followers(folder, port):
         said = "bracha: 256 open files are enough for 163 of 1024 followers: the links want 29, each client 2 and each follower 1"
         found += differs("what is said", log_of(folder).count(said), 1)
         found += differs("what is told", "follower refused: too many follow" in log_of(folder), True)
+        for it in stay[:10]:
+            followers.links[it].shutdown(socket.SHUT_RDWR)
+        decide(links, lines, 33)
+        # Those that leave are missed with what is told next.
+        time.sleep(2)
+        others = Followers(desks[0], 25)
+        found += differs("followers that are refused once ten have left", soon(lambda: len(others.ended) >= 15, 5) and len(others.ended), 15)
+        others.close()
         followers.close()
         return found
 
