@@ -2,7 +2,7 @@
    fails once with EIO, as after a write-back that failed. The next one succeeds, although nothing was written then, as Linux
    has it. A file whose path ends in FAIL_UNLINK_OF isn't removed: EACCES. The FAIL_THREAD_ATth thread isn't started: EAGAIN.
    Of a path that ends in FAIL_STAT_OF nothing is known, none that ends in FAIL_OPEN_OF is opened, no link that ends in FAIL_LINK_OF
-   is read, and no folder that ends in FAIL_LIST_OF is listed: EIO. */
+   is read, and no folder that ends in FAIL_LIST_OF is listed, or the FAIL_LIST_ATth time alone: EIO. */
 #define _GNU_SOURCE
 #include <dlfcn.h>
 #include <errno.h>
@@ -17,7 +17,7 @@
 #include <sys/stat.h>
 #include <unistd.h>
 
-static atomic_long calls, threads;
+static atomic_long calls, threads, lists;
 
 /* Returns 1 if the path is one that the environment means. */
 static int ends(const char *path, const char *variable)
@@ -110,7 +110,8 @@ ssize_t getdents64(int folder, void *names, size_t most)
 {
     typedef ssize_t (*list)(int, void *, size_t);
     list real = (list)dlsym(RTLD_NEXT, "getdents64");
-    if (!is_meant(folder, "FAIL_LIST_OF"))
+    const char *at = getenv("FAIL_LIST_AT");
+    if (!is_meant(folder, "FAIL_LIST_OF") || (at && atomic_fetch_add(&lists, 1) + 1 != atol(at)))
         return real(folder, names, most);
     errno = EIO;
     return -1;

@@ -160,6 +160,11 @@ says 'a folder that cannot be listed' 1 $'bracha: file\nlater: open: '"$unknown"
     env LD_PRELOAD="$room/fail_calls.so" FAIL_LIST_OF=/later "$program" init later.toml
 says 'its first journal' 1 '' bash -c '[ -e later/0.journal ]'
 
+# A journal that was put aside is looked for once.
+echo >later/1.journal.forgotten
+says 'a folder that cannot be listed once' 1 $'bracha: file\nlater: open: '"$unknown" \
+    env LD_PRELOAD="$room/fail_calls.so" FAIL_LIST_OF=/later FAIL_LIST_AT=1 timeout 20 "$program" run --stay later.toml
+
 # A member that the system refuses one thread ends and says so, or clients are answered all the same.
 unstarted=$'ended 1 bracha: memory\nthreads: the system refused one: see `ulimit -u`'
 for name in alone chain; do

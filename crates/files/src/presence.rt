@@ -1,4 +1,5 @@
-//! The presence of files. If the system doesn't say, that is a failure, and never taken for either.
+//! The presence of files. An error other than `no such file` says neither that a file is there
+//! nor that it is missing: it is a failure.
 
 ghost use Rattle.std.specs.Prelude.{◌≡◌, ◌≢◌, Err, IfErr, IsErr, IsOk, Ok, false, true};
 ghost use Rattle.std.specs.IoError.{error_kind};
